@@ -4,10 +4,14 @@
 
 mod memory;
 mod name;
+mod scan;
 mod sink;
 mod source;
+mod words;
 
 pub use memory::NoMemory;
 pub use name::Name;
+pub use scan::{Line, Scan};
 pub use sink::{Sink, SinkFault};
 pub use source::{Source, SourceFault};
+pub use words::{Words, number};
