@@ -1,1 +1,5 @@
+pub mod Lines
+pub mod Matches
+pub mod Options
 pub mod Program
+pub mod Reading

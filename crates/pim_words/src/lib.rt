@@ -7,6 +7,7 @@
 mod command;
 mod compiling;
 mod fault;
+mod options;
 mod program;
 mod reading;
 

@@ -1,0 +1,3 @@
+pub mod NamesWalk
+pub mod NamesFaults
+pub mod CompileLine
