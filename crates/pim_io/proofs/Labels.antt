@@ -1,5 +1,5 @@
 -- The label of a name is a label, and a label is its own label.
-use Rattle.std.proofs.Common.{◌≡◌, ℕ, ◌<◌, ◌≤◌, List, [], ◌∷◌, length, map, refl, ap, arith, get_or, zero, suc}
+use Rattle.std.proofs.Common.{◌≡◌, ℕ, ◌<◌, ◌≤◌, List, [], ◌∷◌, length, refl, arith, get_or, zero, suc}
 use Rattle.std.specs.Prelude.{All}
 use Rattle.std.proofs.lemmas.Bool.Decides.{nat_tests}
 use Rattle.std.proofs.lemmas.List.{length-map}
@@ -20,7 +20,7 @@ pub IsLabel-label : (bytes : List ℕ) → 0 < length bytes → length bytes ≤
 IsLabel-label bytes some short = record {
   some = omega (arith, length-map bytes label_byte);
   short = omega (arith, length-map bytes label_byte);
-  shown = shown-label bytes
+  shown = shown-label bytes;
 }
 
 pub label_same : (bytes : List ℕ) → All IsShown bytes → label bytes ≡ bytes

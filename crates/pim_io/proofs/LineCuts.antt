@@ -1,7 +1,7 @@
 -- Where the first newline cuts bytes into their first line and the others.
-use Rattle.std.proofs.Common.{◌≡◌, ℕ, ◌+◌, ◌<◌, ◌≤◌, List, [], ◌∷◌, ◌++◌, Bool, true, false, length, refl, ap, sym, ◌∙◌, subst, arith, get_or, take, drop, zero, suc, cond}
-use Rattle.std.proofs.lemmas.List.{append-nil, append_assoc, take-append-drop, drop_more, get_or-take, length-take-le, take_all, drop_all}
-use Rattle.pim_io.specs.Lines.{LineView, last_line, is_newline, lines_after}
+use Rattle.std.proofs.Common.{◌≡◌, ℕ, ◌+◌, ◌<◌, List, [], ◌∷◌, ◌++◌, true, false, length, refl, ap, sym, ◌∙◌, arith, get_or, take, drop, suc}
+use Rattle.std.proofs.lemmas.List.{append-nil, append_assoc, take-append-drop, drop_more, get_or-take, length-take-le}
+use Rattle.pim_io.specs.Lines.{last_line, is_newline, lines_after}
 
 -- bytes that are no newlines belong to the line
 pub lines_after-append : (number start : ℕ) (text run bytes : List ℕ) → ((k : ℕ) → k < length run → is_newline (get_or run k 0) ≡ false) → lines_after number start text (run ++ bytes) ≡ lines_after number start (text ++ run) bytes

@@ -1,7 +1,7 @@
 -- Where blanks cut a text into its first word and the others.
-use Rattle.std.proofs.Common.{◌≡◌, ℕ, ◌+◌, ◌<◌, ◌≤◌, ◌-◌, List, [], ◌∷◌, ◌++◌, Bool, true, false, length, refl, ap, sym, ◌∙◌, subst, arith, get_or, take, drop, zero, suc, cond}
+use Rattle.std.proofs.Common.{◌≡◌, ℕ, ◌<◌, ◌≤◌, ◌-◌, List, [], ◌∷◌, ◌++◌, true, false, length, refl, ap, sym, ◌∙◌, arith, get_or, take, drop, zero, suc}
 use Rattle.std.proofs.lemmas.Bool.{false≢true}
-use Rattle.std.proofs.lemmas.List.{append-nil, append_assoc, take-append-drop, drop_more, get_or-drop, length-drop, get_or-take, length-take-le, take_all, drop_all}
+use Rattle.std.proofs.lemmas.List.{append-nil, append_assoc, take-append-drop, get_or-drop, length-drop, get_or-take, length-take-le}
 use Rattle.pim_io.specs.Words.{is_blank, close, words_after, words}
 
 -- bytes that are no blanks belong to the run

@@ -29,8 +29,8 @@ abbrev pub lines_after : ℕ → ℕ → List ℕ → List ℕ → List LineView
 lines_after number start text [] = last_line number start text
 lines_after number start text (b ∷ bytes) =
     if is_newline b
-      then record { number = number; start = start; text = text; ended = true } ∷ lines_after (number + 1) (start + length text + 1) [] bytes
-      else lines_after number start (text ++ b ∷ []) bytes
+    then record { number = number; start = start; text = text; ended = true } ∷ lines_after (number + 1) (start + length text + 1) [] bytes
+    else lines_after number start (text ++ b ∷ []) bytes
 
 -- the lines of the bytes
 abbrev pub lines : List ℕ → List LineView
@@ -49,5 +49,5 @@ abbrev pub after_line : ScanView → LineView → ScanView
 after_line scan line = record {
   rest = if line.ended then drop (length line.text + 1) scan.rest else [];
   number = scan.number + 1;
-  start = scan.start + length line.text + (if line.ended then 1 else 0)
+  start = scan.start + length line.text + (if line.ended then 1 else 0);
 }

@@ -1,4 +1,4 @@
-use Rattle.std.proofs.Common.{◌≡◌, ℕ, ◌<◌, ◌∷◌, [], List, length, sym, ap, ◌∙◌, arith, refl, take}
+use Rattle.std.proofs.Common.{◌≡◌, ℕ, ◌<◌, List, length, sym, ap, ◌∙◌, arith, take}
 use Rattle.std.proofs.lemmas.Bool.Decides.{nat_tests}
 use Rattle.pim_io.specs.Words.{words, close}
 use Rattle.pim_io.proofs.WordCuts.{words-drop, words-cut, close-some, empty_run, first_byte}
