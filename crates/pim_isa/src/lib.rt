@@ -3,13 +3,18 @@
 #![tactic(auto)]
 
 mod cells;
+mod check;
 mod draft;
 mod instr;
+mod invalid;
 mod port;
+mod program;
 mod target;
 
 pub use cells::Cells;
 pub use draft::{MAX_CELLS, ProgramDraft};
 pub use instr::{Ins, Instr, Operand};
+pub use invalid::Invalid;
 pub use port::{Port, Ports};
+pub use program::Program;
 pub use target::{Fill, Target};
