@@ -1,0 +1,78 @@
+ghost use Rattle.std.specs.Prelude.{◌≡◌, ◌<◌, ◌≤◌, [], ◌∷◌, ◌++◌, length, OnOk, OnErr};
+ghost use Rattle.pim_io.specs.Names.{label as label_of};
+
+use pim_io::{Name, NoMemory};
+use std::alloc::Global;
+use std::marker::Model;
+
+/// An input or an output of a program: the cell that it lies in, and its label.
+#[derive(Debug, Drop)]
+pub struct Port {
+    pub cell: u32,
+    pub label: Name,
+}
+
+/// The labels of a program's inputs and outputs, before any cell is chosen.
+#[derive(Debug, Drop)]
+pub struct Ports {
+    alloc: Global,
+    inputs: Vec<Name>,
+    outputs: Vec<Name>,
+}
+
+impl Model for Ports {
+    ghost use Rattle.pim_isa.specs.Programs.{PortsView};
+
+    ghost Value = { PortsView };
+
+    ghost view = { λ p. record { inputs = p.inputs.items; outputs = p.outputs.items } };
+}
+
+impl Ports {
+    /// No ports.
+    pub fn new(alloc: Global) -> Ports
+        ensures { result ≡ record { inputs = []; outputs = [] } }
+    {
+        Ports {
+            alloc,
+            inputs: Vec::new(alloc),
+            outputs: Vec::new(alloc),
+        }
+    }
+
+    /// Appends an input with the label of this name. A call that is refused changes nothing.
+    pub fn add_input(&mut self, label: &[u8]) -> Result<(), NoMemory>
+        requires some { 0 < length label.now }
+        requires short { length label.now ≤ 4096 }
+        ensures ok { OnOk result (self.new ≡ record self.old { inputs = self.old.inputs ++ label_of label.now ∷ [] }) }
+        ensures err { OnErr result (self.new ≡ self.old) }
+    {
+        self.inputs.push(Name::label(self.alloc, label)?)?;
+        Ok(())
+    }
+
+    /// Appends an output with the label of this name. A call that is refused changes nothing.
+    pub fn add_output(&mut self, label: &[u8]) -> Result<(), NoMemory>
+        requires some { 0 < length label.now }
+        requires short { length label.now ≤ 4096 }
+        ensures ok { OnOk result (self.new ≡ record self.old { outputs = self.old.outputs ++ label_of label.now ∷ [] }) }
+        ensures err { OnErr result (self.new ≡ self.old) }
+    {
+        self.outputs.push(Name::label(self.alloc, label)?)?;
+        Ok(())
+    }
+
+    /// The labels of the inputs, in order.
+    pub fn inputs(&self) -> &[Name]
+        ensures { result.now ≡ self.now.inputs }
+    {
+        self.inputs.as_slice()
+    }
+
+    /// The labels of the outputs, in order.
+    pub fn outputs(&self) -> &[Name]
+        ensures { result.now ≡ self.now.outputs }
+    {
+        self.outputs.as_slice()
+    }
+}

@@ -1,0 +1,114 @@
+ghost use Rattle.std.specs.Prelude.{◌≡◌, ◌+◌, ◌<◌, ◌^◌, length, IfOk, Some, None, IfErr};
+ghost use Rattle.pim_isa.specs.Validity.{fault_of, IsProgram};
+
+use crate::draft::ProgramDraft;
+use crate::instr::Instr;
+use crate::invalid::Invalid;
+use crate::port::Port;
+use crate::target::Target;
+use std::marker::Model;
+
+/// A valid program: its ports and cells are in range, its inputs apart, and each instruction is one of its target
+/// that reads no cell which it writes.
+#[derive(Debug, Drop)]
+pub struct Program {
+    target: Target,
+    cells: u32,
+    inputs: Vec<Port>,
+    outputs: Vec<Port>,
+    instrs: Vec<Instr>,
+}
+
+impl Model for Program {
+    ghost use Rattle.pim_isa.specs.Programs.{ProgramView};
+    ghost use Rattle.pim_isa.specs.Validity.{IsProgram};
+
+    ghost Value = { ProgramView };
+
+    ghost view = { λ p. record {
+      target = p.target;
+      cells = p.cells;
+      inputs = p.inputs.items;
+      outputs = p.outputs.items;
+      instrs = p.instrs.items;
+    } };
+
+    ghost invariant = { λ p.
+        IsProgram (record {
+          target = p.target;
+          cells = p.cells;
+          inputs = p.inputs.items;
+          outputs = p.outputs.items;
+          instrs = p.instrs.items;
+        }) };
+}
+
+impl Program {
+    /// The program of a draft that has no fault, or its first fault. Takes no memory. Linear in the ports and in the
+    /// cells that the instructions name.
+    pub fn new(draft: ProgramDraft) -> Result<Program, Invalid>
+        requires few_ports { length draft.inputs + length draft.outputs < 2 ^ 28 }
+        requires few_instrs { length draft.instrs < 2 ^ 28 }
+        ensures program { IfOk result (λ program. program ≡ draft) }
+        ensures sound { IfOk result (λ _. fault_of draft ≡ None) }
+        ensures fault { IfErr result (λ fault. fault_of draft ≡ Some fault) }
+    {
+        if let Some(fault) = draft.fault() {
+            return Err(fault);
+        }
+        let ProgramDraft {
+            target,
+            cells,
+            inputs,
+            outputs,
+            instrs,
+            ..
+        } = draft;
+        Ok(Program {
+            target,
+            cells,
+            inputs,
+            outputs,
+            instrs,
+        })
+    }
+
+    pub fn target(&self) -> Target
+        ensures value { result ≡ self.now.target }
+        ensures valid { IsProgram self.now }
+    {
+        self.target
+    }
+
+    /// The number of cells.
+    pub fn cells(&self) -> u32
+        ensures value { result ≡ self.now.cells }
+        ensures valid { IsProgram self.now }
+    {
+        self.cells
+    }
+
+    /// The inputs in order.
+    pub fn inputs(&self) -> &[Port]
+        ensures value { result.now ≡ self.now.inputs }
+        ensures valid { IsProgram self.now }
+    {
+        self.inputs.as_slice()
+    }
+
+    /// The outputs in order.
+    pub fn outputs(&self) -> &[Port]
+        ensures value { result.now ≡ self.now.outputs }
+        ensures valid { IsProgram self.now }
+    {
+        self.outputs.as_slice()
+    }
+
+    /// The instructions in order. Their number is that of the program's cycles.
+    pub fn instrs(&self) -> &[Instr]
+        ensures value { result.now ≡ self.now.instrs }
+        ensures valid { IsProgram self.now }
+    {
+        self.instrs.as_slice()
+    }
+}
