@@ -6,3 +6,4 @@ pub mod Steps
 pub mod Primed
 pub mod Live
 pub mod Results
+pub mod Machines
