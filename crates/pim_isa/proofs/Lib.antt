@@ -1,2 +1,4 @@
 pub mod NoteLemmas
 pub mod RowLemmas
+pub mod SoundLemmas
+pub mod PrimedLemmas

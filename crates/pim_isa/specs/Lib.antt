@@ -1,6 +1,7 @@
 pub mod Touches
 pub mod Programs
 pub mod Validity
+pub mod Sound
 pub mod Inputs
 pub mod Steps
 pub mod Primed

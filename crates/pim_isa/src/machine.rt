@@ -1,4 +1,4 @@
-ghost use Rattle.std.specs.Prelude.{◌≡◌, ◌<◌, ◌≤◌, ◌↔◌, Bool, List, length, slice_get, IsTrue, IfOk};
+ghost use Rattle.std.specs.Prelude.{◌≡◌, ◌<◌, ◌≤◌, ◌↔◌, Bool, List, length, slice_get, IsTrue, IsNone, IfOk};
 ghost use Rattle.pim_isa.specs.Steps.{exec_k};
 ghost use Rattle.pim_isa.specs.Results.{load, fill_bit, bits_of};
 ghost use Rattle.pim_isa.specs.Machines.{next_of};
@@ -21,7 +21,7 @@ pub struct Machine<'a> {
 impl<'a> Model for Machine<'a> {
     ghost use Rattle.std.specs.Prelude.{◌≡◌, ◌≤◌, length};
     ghost use Rattle.pim_isa.specs.Machines.{MachineView};
-    ghost use Rattle.pim_isa.specs.Validity.{IsProgram};
+    ghost use Rattle.pim_isa.specs.Sound.{IsProgram};
 
     ghost Value = { MachineView };
 
@@ -89,6 +89,7 @@ impl<'a> Machine<'a> {
     /// The bit in a cell, and None exactly where the program has no such cell.
     pub fn cell(&self, c: u32) -> Option<bool>
         ensures value { result ≡ slice_get self.now.row c }
+        ensures outside { IsNone result ↔ (self.now.program.cells ≤ c) }
         ensures cells { length self.now.row ≡ self.now.program.cells }
     {
         self.row.get(c as usize).copied()
