@@ -12,6 +12,8 @@ mod port;
 mod program;
 mod row;
 mod target;
+#[cfg(test)]
+mod tests;
 
 pub use cells::Cells;
 pub use draft::{MAX_CELLS, ProgramDraft};
