@@ -1,1 +1,5 @@
 pub mod NoteLemmas
+pub mod RowLemmas
+pub mod SoundLemmas
+pub mod PrimedLemmas
+mod Examples

@@ -1,8 +1,10 @@
 pub mod Touches
 pub mod Programs
 pub mod Validity
+pub mod Sound
 pub mod Inputs
 pub mod Steps
 pub mod Primed
 pub mod Live
 pub mod Results
+pub mod Machines

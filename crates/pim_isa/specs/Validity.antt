@@ -1,5 +1,5 @@
--- When a draft is a program, and else its first fault.
-use Rattle.std.specs.Prelude.{◌≡◌, ◌≢◌, ℕ, ◌+◌, ◌^◌, ◌<◌, ◌≤◌, Bool, true, false, ◌==◌, ◌&&◌, ◌||◌, not, nat_lt, nat_le, if◌then◌else◌, List, [], ◌∷◌, ◌++◌, length, map, Option, Some, None, IsTrue, All, AllPairs}
+-- The first fault of a draft.
+use Rattle.std.specs.Prelude.{ℕ, ◌+◌, Bool, true, false, ◌==◌, ◌&&◌, ◌||◌, not, nat_lt, nat_le, if◌then◌else◌, List, [], ◌∷◌, ◌++◌, length, Option, Some, None}
 use Rattle.std.specs.List.{list_any}
 use Rattle.std.specs.Option.{option_map, option_or}
 use Rattle.pim_isa.specs.declared.target.Target.{Target}
@@ -7,7 +7,6 @@ use Rattle.pim_isa.specs.declared.target.Target.TheVariants.{Magic, Plim}
 use Rattle.pim_isa.specs.declared.instr.Instr.{Instr}
 use Rattle.pim_isa.specs.declared.instr.Instr.TheVariants.{Init, Nor, Rm3}
 use Rattle.pim_isa.specs.declared.port.Port.{Port}
-use Rattle.pim_isa.specs.declared.draft.TheConstants.{MAX_CELLS}
 use Rattle.pim_isa.specs.declared.invalid.Invalid.{Invalid}
 use Rattle.pim_isa.specs.declared.invalid.Invalid.TheVariants as invalid
 use Rattle.pim_isa.specs.Programs.{ProgramView}
@@ -83,10 +82,3 @@ bad_port d = option_or (bad_input d.cells 0 [] d.inputs) (bad_output d.cells (le
 -- the first fault of a draft: that of the ports, else that of the instructions in order
 abbrev pub fault_of : ProgramView → Option Invalid
 fault_of d = option_or (option_map (λ k. invalid.Port k) (bad_port d)) (first_instr_fault d.target d.cells 0 d.instrs)
-
--- a draft within the bounds that has no fault
-pub record IsProgram (p : ProgramView) : Type 0 where
-  pub small : p.cells ≤ MAX_CELLS
-  pub few_ports : length p.inputs + length p.outputs < 2 ^ 28
-  pub few_instrs : length p.instrs < 2 ^ 28
-  pub sound : fault_of p ≡ None

@@ -3,11 +3,11 @@ ghost use Rattle.std.specs.Option.{option_or};
 ghost use Rattle.pim_io.specs.Names.{label as label_of};
 ghost use Rattle.pim_isa.specs.Validity.{fault_of};
 
-use crate::check;
 use crate::instr::Instr;
 use crate::invalid::Invalid;
 use crate::port::Port;
 use crate::target::Target;
+use crate::{check, row};
 use pim_io::{Name, NoMemory};
 use std::alloc::Global;
 use std::marker::Model;
@@ -82,7 +82,7 @@ impl ProgramDraft {
         let place = self.inputs.len();
         self.inputs.push(Port { cell, label })?;
         self.bad_input = first_bad(self.bad_input, &self.marks, self.cells, cell, place);
-        mark(&mut self.marks, cell);
+        row::write(&mut self.marks, cell, true);
         Ok(())
     }
 
@@ -151,18 +151,9 @@ fn first_bad(
 {
     if bad.is_some() {
         bad
-    } else if cell >= cells || marks.get(cell as usize).copied().unwrap_or(false) {
+    } else if cell >= cells || row::bit(marks, cell) {
         Some(place)
     } else {
         None
-    }
-}
-
-/// Marks the cell, if it has a mark.
-fn mark(marks: &mut Vec<bool>, cell: u32)
-    ensures { marks.new.items ≡ slice_set marks.old.items cell true }
-{
-    if let Some(mark) = marks.get_mut(cell as usize) {
-        *mark = true;
     }
 }

@@ -7,14 +7,19 @@ mod check;
 mod draft;
 mod instr;
 mod invalid;
+mod machine;
 mod port;
 mod program;
+mod row;
 mod target;
+#[cfg(test)]
+mod tests;
 
 pub use cells::Cells;
 pub use draft::{MAX_CELLS, ProgramDraft};
 pub use instr::{Ins, Instr, Operand};
 pub use invalid::Invalid;
+pub use machine::Machine;
 pub use port::{Port, Ports};
 pub use program::Program;
 pub use target::{Fill, Target};

@@ -1,5 +1,6 @@
-ghost use Rattle.std.specs.Prelude.{◌≡◌, ◌+◌, ◌<◌, ◌^◌, length, IfOk, Some, None, IfErr};
-ghost use Rattle.pim_isa.specs.Validity.{fault_of, IsProgram};
+ghost use Rattle.std.specs.Prelude.{◌≡◌, ◌+◌, ◌<◌, ◌^◌, length, Some, None, IsOk, IfOk, IfErr, OnOk};
+ghost use Rattle.pim_isa.specs.Validity.{fault_of};
+ghost use Rattle.pim_isa.specs.Sound.{IsSound, IsProgram};
 
 use crate::draft::ProgramDraft;
 use crate::instr::Instr;
@@ -21,7 +22,7 @@ pub struct Program {
 
 impl Model for Program {
     ghost use Rattle.pim_isa.specs.Programs.{ProgramView};
-    ghost use Rattle.pim_isa.specs.Validity.{IsProgram};
+    ghost use Rattle.pim_isa.specs.Sound.{IsProgram};
 
     ghost Value = { ProgramView };
 
@@ -50,8 +51,12 @@ impl Program {
         requires few_ports { length draft.inputs + length draft.outputs < 2 ^ 28 }
         requires few_instrs { length draft.instrs < 2 ^ 28 }
         ensures program { IfOk result (λ program. program ≡ draft) }
-        ensures sound { IfOk result (λ _. fault_of draft ≡ None) }
+        ensures faultless { OnOk result (fault_of draft ≡ None) }
         ensures fault { IfErr result (λ fault. fault_of draft ≡ Some fault) }
+
+        // The same in the words of what a program is.
+        ensures sound { OnOk result (IsSound draft) }
+        ensures accepts { IsSound draft → IsOk result }
     {
         if let Some(fault) = draft.fault() {
             return Err(fault);

@@ -1,0 +1,109 @@
+ghost use Rattle.std.specs.Prelude.{◌≡◌, ◌<◌, ◌≤◌, ◌↔◌, Bool, List, length, slice_get, IsTrue, IsNone, IfOk};
+ghost use Rattle.pim_isa.specs.Steps.{exec_k};
+ghost use Rattle.pim_isa.specs.Results.{load, fill_bit, bits_of};
+ghost use Rattle.pim_isa.specs.Machines.{next_of};
+
+use crate::program::Program;
+use crate::row;
+use crate::target::Fill;
+use pim_io::NoMemory;
+use std::alloc::Global;
+use std::marker::Model;
+
+/// One run of a program on one row of cells, an instruction at a time.
+#[derive(Debug, Drop)]
+pub struct Machine<'a> {
+    program: &'a Program,
+    row: Vec<bool>,
+    at: u32,
+}
+
+impl<'a> Model for Machine<'a> {
+    ghost use Rattle.std.specs.Prelude.{◌≡◌, ◌≤◌, length};
+    ghost use Rattle.pim_isa.specs.Machines.{MachineView};
+    ghost use Rattle.pim_isa.specs.Sound.{IsProgram};
+
+    ghost Value = { MachineView };
+
+    ghost view = { λ m. record { program = m.program.now; row = m.row.items; at = m.at } };
+
+    ghost invariant = { λ m. (length m.row.items ≡ m.program.now.cells) × (m.at ≤ length m.program.now.instrs) × IsProgram m.program.now };
+}
+
+impl<'a> Machine<'a> {
+    /// The machine at the start: the bits lie in the input cells in order, and the filling in all other cells.
+    /// Linear in the cells.
+    pub fn load(
+        alloc: Global,
+        program: &'a Program,
+        vector: &[bool],
+        fill: Fill,
+    ) -> Result<Machine<'a>, NoMemory>
+        requires { length vector.now ≡ length program.now.inputs }
+        ensures { IfOk result (λ m. m ≡ record { program = program.now; row = load program.now fill vector.now; at = 0 }) }
+    {
+        let mut row = Vec::new(alloc);
+        row.resize(program.cells() as usize, fill.bit())?;
+        row::put_inputs(&mut row, program.inputs(), vector);
+        Ok(Machine {
+            program,
+            row,
+            at: 0,
+        })
+    }
+
+    /// Back to the start, with the bits of a line of as many characters `0` and `1` as inputs. Linear in the cells.
+    pub fn reload(&mut self, line: &[u8], fill: Fill)
+        requires { length line.now ≡ length self.old.program.inputs }
+        ensures { self.new ≡ record self.old { row = load self.old.program fill (bits_of line.now); at = 0 } }
+    {
+        self.row.fill(fill.bit());
+        row::put_line(&mut self.row, self.program.inputs(), line);
+        self.at = 0;
+    }
+
+    /// Executes the next instruction. False exactly at the end, where nothing changes.
+    /// The cost is that of the cells that the instruction names.
+    pub fn step(&mut self) -> bool
+        ensures more { IsTrue result ↔ (self.old.at < length self.old.program.instrs) }
+        ensures next { self.new ≡ next_of self.old }
+        ensures follows { (start : List Bool) → self.old.row ≡ exec_k self.old.at self.old.program.instrs start
+            → self.new.row ≡ exec_k self.new.at self.old.program.instrs start }
+    {
+        let Some(instr) = self.program.instrs().get(self.at as usize) else {
+            return false;
+        };
+        row::execute(&mut self.row, instr);
+        self.at += 1;
+        true
+    }
+
+    /// How many instructions were executed.
+    pub fn at(&self) -> u32
+        ensures value { result ≡ self.now.at }
+        ensures within { self.now.at ≤ length self.now.program.instrs }
+    {
+        self.at
+    }
+
+    /// The bit in a cell, and None exactly where the program has no such cell.
+    pub fn cell(&self, c: u32) -> Option<bool>
+        ensures value { result ≡ slice_get self.now.row c }
+        ensures outside { IsNone result ↔ (self.now.program.cells ≤ c) }
+        ensures cells { length self.now.row ≡ self.now.program.cells }
+    {
+        self.row.get(c as usize).copied()
+    }
+}
+
+impl Fill {
+    /// The bit that it puts into a cell.
+    fn bit(self) -> bool
+        ensures { result ≡ fill_bit self }
+    {
+        match self {
+            Fill::Zeros => false,
+            Fill::Ones => true,
+        }
+    }
+}
