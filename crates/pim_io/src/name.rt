@@ -38,6 +38,7 @@ impl Name {
     pub fn bytes(&self) -> &[u8]
         ensures value { result.now ≡ self.now }
         ensures labels { IsLabel self.now }
+        ensures same { label self.now ≡ self.now }
     {
         self.bytes.as_slice()
     }
