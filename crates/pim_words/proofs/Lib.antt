@@ -1,3 +1,4 @@
 pub mod NamesWalk
 pub mod NamesFaults
 pub mod CompileLine
+pub mod PlainWords

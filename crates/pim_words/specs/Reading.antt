@@ -1,6 +1,6 @@
 -- What the words of a command come to.
-use Rattle.std.specs.Prelude.{◌≡◌, ℕ, Bool, true, not, List, [], ◌∷◌, Option, None}
-use Rattle.std.specs.Prelude.{codes, option_map, option_and_then}
+use Rattle.std.specs.Prelude.{◌≡◌, ◌≤◌, ℕ, Bool, true, false, not, List, [], ◌∷◌, Option, None}
+use Rattle.std.specs.Prelude.{codes, is_some, option_map, option_and_then}
 use Rattle.std.specs.Option.{option_map_or}
 use Rattle.std.specs.Str.Parse.{digits_value, without_leading_plus}
 use Rattle.clap.specs.Walk.{is_empty}
@@ -42,3 +42,12 @@ pub record ReadsAlike (a b : App) : Type 0 where
   pub simple : is_simple_and_free a ≡ true
   pub faults : (words : List Text) → fault_of a words ≡ fault_of b words
   pub matches : (words : List Text) → matches_of a words ≡ matches_of b words
+
+-- the first word names a command that is built
+abbrev pub names_command : List Text → Bool
+names_command [] = false
+names_command (name ∷ rest) = is_some (cli name)
+
+-- the number of cells is at most that of a whole row
+abbrev pub IsWithin : Command → Type 0
+IsWithin (Compile target level cells) = cells ≤ 1048576

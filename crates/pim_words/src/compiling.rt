@@ -5,7 +5,7 @@ ghost use Rattle.clap.specs.Words.{app_of, found_of, kind_of, one_text, IsParsed
 ghost use Rattle.clap.specs.declared.parser.matches.ArgMatches.{ArgMatches};
 ghost use Rattle.pim_words.specs.Lines.{compile_line};
 ghost use Rattle.pim_words.specs.Matches.{HasCells};
-ghost use Rattle.pim_words.specs.Reading.{ReadsAlike, compile_said, compile_with, refuses};
+ghost use Rattle.pim_words.specs.Reading.{IsWithin, ReadsAlike, compile_said, compile_with, refuses};
 
 use crate::options::option_of;
 use crate::{Command, LevelWord, TargetWord, WordsFault};
@@ -39,6 +39,7 @@ pub fn read_compile(alloc: Global, words: &[String]) -> Result<Command, WordsFau
         → refuses (map string_bytes words.now) compile_line ≡ true }
     ensures accepted { OnOk result (refuses (map string_bytes words.now) compile_line ≡ false) }
     ensures value { IfOk result (λ c. compile_said (map string_bytes words.now) compile_line ≡ Some c) }
+    ensures within { IfOk result IsWithin }
 {
     let Ok(line) = compile_line(alloc) else {
         return Err(WordsFault::NoMemory);
@@ -52,8 +53,9 @@ pub fn read_compile(alloc: Global, words: &[String]) -> Result<Command, WordsFau
 /// The command that the matches of `compile` say.
 fn compile_of(matches: &ArgMatches) -> Command
     requires { HasCells matches.now }
-    ensures { option_map compile_with (one_text (found_of matches.now) (codes "cells"))
+    ensures said { option_map compile_with (one_text (found_of matches.now) (codes "cells"))
         ≡ Some result }
+    ensures within { IsWithin result }
 {
     match matches.get_one::<u32>("cells") {
         Some(cells) => Command::Compile {

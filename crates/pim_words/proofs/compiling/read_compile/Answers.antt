@@ -13,4 +13,4 @@ returns-in-Ok-try_get_matches_from-clause-value c =
     let simple : is_simple (app_of c.in-Ok.line) ≡ true = (both _ _ alike.simple).0 in
     let rows = (c.in-Ok-try_get_matches_from.ensures.matches simple).0 in
     ap (option_map compile_with) (ap (one_of (codes "cells")) (sym (rows ∙ alike.matches words)) ∙ sym (one_text-rows (found_of matches) (codes "cells")))
-    ∙ c.compile_of.ensures
+    ∙ c.compile_of.ensures.said
