@@ -1,3 +1,4 @@
+mod Examples
 pub mod NamesWalk
 pub mod NamesFaults
 pub mod CompileLine

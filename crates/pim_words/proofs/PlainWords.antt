@@ -1,5 +1,5 @@
 -- Plain words are taken, and read as they say.
-use Rattle.std.proofs.Common.{◌≡◌, ◌∙◌, ◌≤◌, ◌<◌, ◌+◌, ◌-◌, ◌^◌, ◌++◌, ◌⊎◌, ℕ, Bool, List, [], ◌∷◌, length, refl, sym, ap, subst, false, true, zero, suc, inl, inr, arith, codes, pos}
+use Rattle.std.proofs.Common.{◌≡◌, ◌∙◌, ◌≤◌, ◌+◌, ◌-◌, ◌++◌, ℕ, List, [], ◌∷◌, refl, sym, ap, subst, false, true, zero, suc, inl, inr, arith, codes, pos}
 use Rattle.std.proofs.Common.{cond, ◌==◌}
 use Rattle.std.specs.Prelude.{Err, FitsSigned, IfOk, MatchResult, Ok, Result, Some, if◌then◌else◌, neg_ℤ, not, option_map, ◌≤ℤ◌}
 use Rattle.std.specs.Int.{w64}

@@ -12,9 +12,11 @@ returns c =
     let parser = c.args.parser in
     let given = c.value_parser.ensures.given in
     let parser_is : c.value_parser.result.value_parser ≡ Some parser = given.1 ∙ ap Some given.2 in
+    let set : c.action.result ≡ record c.new.result { long = Some name; action = Some Set } = c.action.ensures ∙ ap (λ (a : Arg). record a { action = Some Set }) c.long.ensures in
+    let parsed : c.value_parser.result ≡ record c.action.result { value_parser = Some parser } =
+    c.value_parser.ensures.others ∙ ap (λ p. record c.action.result { value_parser = p }) parser_is in
     let is : c.value_parser.result ≡ record c.new.result { long = Some name; action = Some Set; value_parser = Some parser } =
-    c.value_parser.ensures.others ∙ (ap (λ p. record c.action.result { value_parser = p }) parser_is
-    ∙ ap (λ (a : Arg). record a { value_parser = Some parser }) (c.action.ensures ∙ ap (λ (a : Arg). record a { action = Some Set }) c.long.ensures)) in
+    parsed ∙ ap (λ (a : Arg). record a { value_parser = Some parser }) set in
     record {
       reads = ap rule_of is ∙ ap (λ (r : Rule). record r { long = Some name.now; action = Some Set; parser = Some parser }) c.new.ensures.rule;
       plain = subst IsPlainArg (sym is) c.new.ensures.plain;

@@ -1,0 +1,59 @@
+-- Worked examples of the definitions: each computes.
+use Rattle.std.proofs.Common.{◌≡◌, List, [], ◌∷◌, false, refl, true, codes}
+use Rattle.std.specs.Prelude.{Some}
+use Rattle.clap.specs.Words.{Text}
+use Rattle.clap.proofs.OnLiterals.{clap_on_literals}
+use Rattle.pim_words.specs.Plain.{compile_words}
+use Rattle.pim_words.specs.Program.{program_word_of}
+use Rattle.pim_words.specs.Reading.{command_said, is_usage}
+use Rattle.pim_words.specs.declared.command.Command.TheVariants.{Compile}
+use Rattle.pim_words.specs.declared.command.LevelWord.TheVariants.{Zero}
+use Rattle.pim_words.specs.declared.command.TargetWord.TheVariants.{Magic}
+
+no_word : is_usage [] ≡ true
+no_word = refl
+
+other_command : is_usage (codes "melt" ∷ []) ≡ true
+other_command = refl
+
+help : is_usage (codes "compile" ∷ codes "--help" ∷ []) ≡ true
+unfolding clap_on_literals
+help = refl
+
+no_cells : is_usage (codes "compile" ∷ codes "--target" ∷ codes "magic" ∷ []) ≡ true
+unfolding clap_on_literals
+no_cells = refl
+
+other_target : is_usage (codes "compile" ∷ codes "--target" ∷ codes "plim" ∷ codes "--cells" ∷ codes "5" ∷ []) ≡ true
+unfolding clap_on_literals
+other_target = refl
+
+too_many : is_usage (compile_words Magic (codes "1048577")) ≡ true
+unfolding clap_on_literals
+too_many = refl
+
+twice : is_usage (codes "compile" ∷ codes "--cells" ∷ codes "5" ∷ codes "--target" ∷ codes "magic" ∷ codes "--cells" ∷ codes "5" ∷ []) ≡ true
+unfolding clap_on_literals
+twice = refl
+
+most : command_said (compile_words Magic (codes "1048576")) ≡ Some (Compile Magic Zero 1048576)
+unfolding clap_on_literals
+most = refl
+
+other_order : List Text
+other_order = codes "compile" ∷ codes "--cells=5" ∷ codes "--target" ∷ codes "magic" ∷ []
+
+other_order_taken : is_usage other_order ≡ false
+unfolding clap_on_literals other_order
+other_order_taken = refl
+
+other_order_said : command_said other_order ≡ Some (Compile Magic Zero 5)
+unfolding clap_on_literals other_order
+other_order_said = refl
+
+leading_zero : command_said (compile_words Magic (codes "+05")) ≡ Some (Compile Magic Zero 5)
+unfolding clap_on_literals
+leading_zero = refl
+
+file_like_an_option : program_word_of (codes "run" ∷ codes "--help" ∷ []) ≡ Some (codes "--help")
+file_like_an_option = refl
