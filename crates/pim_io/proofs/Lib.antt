@@ -1,3 +1,4 @@
+pub mod CodeLemmas
 pub mod Labels
 pub mod LineCuts
 pub mod Wholes
