@@ -5,7 +5,7 @@ use Rattle.std.proofs.lemmas.Bool.Decides.{nat_tests}
 use Rattle.std.proofs.lemmas.Bool.{false≢true}
 use Rattle.std.proofs.lemmas.List.{append-nil, append_assoc, length-append, length-take-le, length-drop, drop_at, take_at, take_more, take_more_set, get_or-drop}
 use Rattle.std.proofs.lemmas.List.Sums.{prefix_len_is, prefix_len_stops, prefix_len-le-length}
-use Rattle.std.proofs.Math.Nat.{pow-suc, mul-le-mul_right}
+use Rattle.std.proofs.Math.Nat.{pow-suc, one-le-pow, mul-le-mul_right}
 use Rattle.pim_io.specs.declared.codes.Code.{Code}
 use Rattle.pim_io.specs.declared.codes.Code.TheVariants.{Got, Long, Short}
 use Rattle.pim_io.specs.Codes.{code_value, high_len, is_high, code_past, first_code, code_at, code_within, code_of}
@@ -136,3 +136,41 @@ take-more bytes code len n rest l h e =
 pub take-last : (bytes code : List ℕ) (len n rest : ℕ) → len < length bytes → rest < 128 → take len bytes ++ code_within n rest ≡ code → take (len + 1) (set bytes len rest) ≡ code
 take-last bytes code len n rest l h e =
     take_more_set bytes len rest l ∙ ap (λ (back : List ℕ). take len bytes ++ back) (sym (code_within-last n rest h)) ∙ e
+
+-- no shorter run of bytes says a number than its code
+pub code_value-take-lt : (n : ℕ) (bytes : List ℕ) → code_value (take n bytes) < 128 ^ n
+code_value-take-lt zero bytes = omega arith
+code_value-take-lt (suc n) [] = let power = one-le-pow (suc n) 128 (omega arith) in omega arith
+code_value-take-lt (suc n) (b ∷ bytes) =
+    let rest = code_value-take-lt n bytes in
+    let power : 128 ^ suc n ≡ 128 ^ n * 128 = pow-suc 128 n in
+    omega arith
+
+length-code_shorter : (n value m : ℕ) → value < 128 ^ suc m → (b : Bool) → nat_lt value 128 ≡ b → ((k : ℕ) → value / 128 < 128 ^ suc k → length (code_within n (value / 128)) ≤ suc k) → length (code_within (suc n) value) ≤ suc m
+length-code_shorter n value m h true e more = rw e (omega arith)
+length-code_shorter n value zero h false e more = let high : 128 ≤ value = grind (arith, nat_tests) in absurd (omega arith)
+length-code_shorter n value (suc m) h false e more =
+    let power : 128 ^ suc (suc m) ≡ 128 ^ suc m * 128 = pow-suc 128 (suc m) in
+    let below : value < 128 ^ suc m * 128 = omega arith in
+    let tail = more m (omega arith) in
+    rw e (omega arith)
+
+pub length-code_within-le : (n value m : ℕ) → value < 128 ^ suc m → length (code_within n value) ≤ suc m
+length-code_within-le zero value m h = omega arith
+length-code_within-le (suc n) value m h = length-code_shorter n value m h (nat_lt value 128) refl (λ k l. length-code_within-le n (value / 128) k l)
+
+got_at : (long within small : Bool) (value' next' value next : ℕ) → cond long Long (cond within (cond small (Got value' next') Long) Short) ≡ Got value next → (value' ≡ value) × (next' ≡ next)
+got_at true within small value' next' value next e = absurd cc
+got_at false false small value' next' value next e = absurd cc
+got_at false true false value' next' value next e = absurd cc
+got_at false true true value' next' value next e = (cc, cc)
+
+pub length-code_of-le : (bytes : List ℕ) (value next : ℕ) → code_at bytes 0 ≡ Got value next → length (code_of value) ≤ next
+unfolding code_of
+length-code_of-le bytes value next e =
+    let n = high_len bytes in
+    let got : (code_value (take (n + 1) bytes) ≡ value) × (0 + n + 1 ≡ next) = got_at (nat_le 5 n) (nat_lt n (length bytes)) (nat_lt (code_value (take (n + 1) bytes)) (2 ^ 32)) _ _ value next e in
+    let below : code_value (take (n + 1) bytes) < 128 ^ (n + 1) = code_value-take-lt (n + 1) bytes in
+    let same : 128 ^ (n + 1) ≡ 128 ^ suc n = ap (λ (k : ℕ). 128 ^ k) (add-one n) in
+    let least : length (code_within 4 value) ≤ suc n = length-code_within-le 4 value n (omega arith) in
+    omega arith

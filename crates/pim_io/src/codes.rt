@@ -18,6 +18,11 @@ pub fn put_code(out: &mut Vec<u8>, value: u32) -> Result<(), NoMemory>
     ensures appended { OnOk result (out.new.items ≡ out.old.items ++ code_of value) }
     ensures reads_back { OnOk result ((rest : List ℕ) →
         code_at (out.new.items ++ rest) (vec_len out.old) ≡ Code.Got value (vec_len out.new)) }
+
+    // Bytes that are read as this number are no fewer.
+    ensures shortest { OnOk result ((bytes : List ℕ) (next : ℕ) →
+        code_at bytes 0 ≡ Code.Got value next → vec_len out.new ≤ vec_len out.old + next) }
+
     ensures stays { OnErr result (out.new.items ≡ out.old.items) }
 {
     let mut bytes = [0; 5];

@@ -13,6 +13,8 @@ mod scan;
 mod sink;
 mod slice_source;
 mod source;
+#[cfg(test)]
+mod tests;
 mod words;
 mod write_sink;
 mod writing;

@@ -1,7 +1,7 @@
 use Rattle.std.proofs.Common.{◌≡◌, ℕ, suc, ◌+◌, ◌-◌, ◌^◌, ◌<◌, ◌++◌, List, length, take, sym, ap, ◌∙◌, refl, arith, vec_len, length-append, length-set}
 use Rattle.pim_io.specs.declared.codes.Code.TheVariants.{Got}
 use Rattle.pim_io.specs.Codes.{code_within, code_of, code_at}
-use Rattle.pim_io.proofs.CodeLemmas.{code_at-code_of, take-more, take-last}
+use Rattle.pim_io.proofs.CodeLemmas.{code_at-code_of, take-more, take-last, length-code_of-le}
 use Rattle.pim_io.proofs.codes.put_code.Goals as goal
 
 pub loop-rest-init : goal.loop-rest-init
@@ -29,11 +29,19 @@ appended c =
 pub returns-clause-appended : goal.returns-clause-appended
 returns-clause-appended c = appended c
 
+-- how many bytes the vector has then
+count : (c : goal.In_ok-extend_from_slice) → vec_len c.extend_from_slice.new.self ≡ vec_len c.args.out.now + length (code_of c.args.value)
+count c = omega (arith, ap length (appended c), length-append c.args.out.now.items (code_of c.args.value))
+
+pub returns-clause-shortest : goal.returns-clause-shortest
+returns-clause-shortest c = λ bytes next e.
+    omega (arith, count c, length-code_of-le bytes c.args.value next e)
+
 pub returns-clause-reads_back : goal.returns-clause-reads_back
 returns-clause-reads_back c = λ rest.
     let out = c.args.out.now in
     let new = c.extend_from_slice.new.self in
     let value = c.args.value in
     let before : vec_len out ≡ length out.items = omega arith in
-    let now : vec_len new ≡ length out.items + length (code_of value) = omega (arith, ap length (appended c), length-append out.items (code_of value)) in
+    let now : vec_len new ≡ length out.items + length (code_of value) = omega (arith, count c) in
     ap (λ (items : List ℕ). code_at (items ++ rest) (vec_len out)) (appended c) ∙ ap (λ (n : ℕ). code_at (out.items ++ code_of value ++ rest) n) before ∙ code_at-code_of out.items rest value c.ranges.value.fits ∙ ap (Got value) (sym now)
