@@ -1,12 +1,10 @@
 -- Seven-bit codes, read from the front and written from the low part on.
-use Rattle.std.proofs.Common.{◌≡◌, ℕ, zero, suc, ◌+◌, ◌-◌, ◌*◌, ◌/◌, ◌%◌, ◌^◌, ◌<◌, ◌≤◌, Bool, true, false, cond, List, [], ◌∷◌, ◌++◌, length, refl, ap, sym, ◌∙◌, subst, arith, get_or, set, take, drop, nat_lt, nat_le, add-one}
-use Rattle.std.specs.List.{prefix_len}
+use Rattle.std.proofs.Common.{◌≡◌, ℕ, zero, suc, ◌+◌, ◌*◌, ◌/◌, ◌%◌, ◌^◌, ◌<◌, ◌≤◌, Bool, true, false, cond, List, [], ◌∷◌, ◌++◌, length, refl, ap, sym, ◌∙◌, arith, get_or, set, take, drop, nat_lt, nat_le, add-one}
 use Rattle.std.proofs.lemmas.Bool.Decides.{nat_tests}
 use Rattle.std.proofs.lemmas.Bool.{false≢true}
-use Rattle.std.proofs.lemmas.List.{append-nil, append_assoc, length-append, length-take-le, length-drop, drop_at, take_at, take_more, take_more_set, get_or-drop}
-use Rattle.std.proofs.lemmas.List.Sums.{prefix_len_is, prefix_len_stops, prefix_len-le-length}
+use Rattle.std.proofs.lemmas.List.{append_assoc, length-append, length-take-le, drop_at, take_at, take_more, take_more_set}
+use Rattle.std.proofs.lemmas.List.Sums.{prefix_len_is, prefix_len_stops}
 use Rattle.std.proofs.Math.Nat.{pow-suc, one-le-pow, mul-le-mul_right}
-use Rattle.pim_io.specs.declared.codes.Code.{Code}
 use Rattle.pim_io.specs.declared.codes.Code.TheVariants.{Got, Long, Short}
 use Rattle.pim_io.specs.Codes.{code_value, high_len, is_high, code_past, first_code, code_at, code_within, code_of}
 
@@ -115,7 +113,7 @@ first_code-code_within n value at rest most h fits =
     rw (low, within, says, small) (ap (Got value) (omega arith))
 
 pub code_at-code_of : (out rest : List ℕ) (value : ℕ) → value < 2 ^ 32 → code_at (out ++ code_of value ++ rest) (length out) ≡ Got value (length out + length (code_of value))
-unfolding code_of
+unfolding code_of code_at
 code_at-code_of out rest value h =
     let cut : drop (length out) (out ++ code_within 4 value ++ rest) ≡ code_within 4 value ++ rest = ap (drop (length out)) (append_assoc out (code_within 4 value) rest) ∙ drop_at out (code_within 4 value ++ rest) (length out) refl in
     ap (λ (bytes : List ℕ). first_code bytes (length out)) cut ∙ first_code-code_within 4 value (length out) rest (omega arith) (omega arith) h
@@ -166,7 +164,7 @@ got_at false true false value' next' value next e = absurd cc
 got_at false true true value' next' value next e = (cc, cc)
 
 pub length-code_of-le : (bytes : List ℕ) (value next : ℕ) → code_at bytes 0 ≡ Got value next → length (code_of value) ≤ next
-unfolding code_of
+unfolding code_of code_at
 length-code_of-le bytes value next e =
     let n = high_len bytes in
     let got : (code_value (take (n + 1) bytes) ≡ value) × (0 + n + 1 ≡ next) = got_at (nat_le 5 n) (nat_lt n (length bytes)) (nat_lt (code_value (take (n + 1) bytes)) (2 ^ 32)) _ _ value next e in

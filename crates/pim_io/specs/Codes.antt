@@ -1,5 +1,5 @@
 -- Seven-bit codes: a number written seven bits at a time, low part first, the high bit set on all bytes but the last.
-use Rattle.std.specs.Prelude.{ℕ, zero, suc, ◌+◌, ◌*◌, ◌/◌, ◌%◌, ◌^◌, List, [], ◌∷◌, Bool, if◌then◌else◌, length, take, drop, nat_lt, nat_le}
+use Rattle.std.specs.Prelude.{ℕ, zero, suc, ◌+◌, ◌*◌, ◌/◌, ◌%◌, ◌^◌, ◌<◌, ◌≤◌, List, [], ◌∷◌, Bool, if◌then◌else◌, length, take, drop, nat_lt, nat_le}
 use Rattle.std.specs.List.{prefix_len}
 use Rattle.pim_io.specs.declared.codes.Code.{Code}
 use Rattle.pim_io.specs.declared.codes.Code.TheVariants.{Got, Long, Short}
@@ -34,7 +34,7 @@ abbrev pub first_code : List ℕ → ℕ → Code
 first_code bytes at = code_past bytes at (high_len bytes)
 
 -- the code at a place of the bytes
-abbrev pub code_at : List ℕ → ℕ → Code
+unfoldable pub code_at : List ℕ → ℕ → Code
 code_at bytes at = first_code (drop at bytes) at
 
 -- the shortest code of a number that has at most n + 1 bytes
@@ -46,3 +46,9 @@ code_within (suc n) value =
 -- the shortest code of a number below 2 ^ 32
 unfoldable pub code_of : ℕ → List ℕ
 code_of value = code_within 4 value
+
+-- a code that was read ends within the bytes, and its number is below 2 ^ 32
+abbrev pub EndsWithin : Code → ℕ → ℕ → Type 0
+EndsWithin (Got value next) at end = (value < 2 ^ 32) × (at < next) × (next ≤ end)
+EndsWithin Long at end = Unit {0}
+EndsWithin Short at end = Unit {0}

@@ -1,5 +1,5 @@
 ghost use Rattle.std.specs.Prelude.{◌≡◌, ◌+◌, ◌≤◌, ◌<◌, ◌^◌, ◌++◌, ℕ, List, length, vec_len, OnOk, OnErr};
-ghost use Rattle.pim_io.specs.Codes.{code_of, code_at, first_code};
+ghost use Rattle.pim_io.specs.Codes.{code_of, code_at, first_code, EndsWithin};
 
 use crate::NoMemory;
 
@@ -38,10 +38,12 @@ pub fn put_code(out: &mut Vec<u8>, value: u32) -> Result<(), NoMemory>
     Ok(())
 }
 
-/// Reads the seven-bit code at a place of the bytes. Longer spellings of a number within five bytes are read too.
+/// Reads the seven-bit code at a place of the bytes, in at most five steps. Longer spellings of a number within five bytes are read too.
+#[tactic(auto, unfolding(crate::specs::Codes::code_at))]
 pub fn get_code(bytes: &[u8], at: usize) -> Code
     requires { at ≤ length bytes.now }
-    ensures { result ≡ code_at bytes.now at }
+    ensures value { result ≡ code_at bytes.now at }
+    ensures within { EndsWithin result at (length bytes.now) }
 {
     let (_, rest) = bytes.split_at(at);
     first_code(rest, at)
@@ -50,7 +52,8 @@ pub fn get_code(bytes: &[u8], at: usize) -> Code
 /// Reads the seven-bit code that bytes begin with, where they stand at a place.
 fn first_code(bytes: &[u8], at: usize) -> Code
     requires { at + length bytes.now < 2 ^ 64 }
-    ensures { result ≡ first_code bytes.now at }
+    ensures value { result ≡ first_code bytes.now at }
+    ensures within { EndsWithin result at (at + length bytes.now) }
 {
     let mut value: u64 = 0;
     let mut scale: u64 = 1;

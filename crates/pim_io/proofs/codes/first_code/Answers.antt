@@ -1,17 +1,17 @@
-use Rattle.std.proofs.Common.{◌≡◌, ℕ, ◌+◌, ◌*◌, ◌%◌, ◌<◌, ◌^◌, List, true, false, length, take, get_or, nat_lt, sym, ap, ◌∙◌, refl, arith, below_more}
+use Rattle.std.proofs.Common.{◌≡◌, ℕ, ◌+◌, ◌*◌, ◌%◌, ◌<◌, ◌^◌, true, false, length, take, get_or, nat_lt, sym, ap, ◌∙◌, refl, arith, below_more}
 use Rattle.std.proofs.lemmas.Bool.Decides.{nat_tests}
-use Rattle.pim_io.specs.Codes.{code_value, is_high, first_code}
+use Rattle.pim_io.specs.Codes.{code_value, is_high}
 use Rattle.pim_io.proofs.CodeLemmas.{first_code-got, first_code-short, first_code-long, code_value-take, digit-more, power-more}
 use Rattle.pim_io.proofs.codes.first_code.Goals as goal
 
-pub returns-then-k-bytes : goal.returns-then-k-bytes
-returns-then-k-bytes c =
+pub returns-then-k-bytes-clause-value : goal.returns-then-k-bytes-clause-value
+returns-then-k-bytes-clause-value c =
     let bytes = c.args.bytes.now in
     let before = c.loop-k.invariant.4 in
     sym (first_code-short bytes c.args.at (omega arith) (λ j h. before j (omega arith)))
 
-pub returns-in_default : goal.returns-in_default
-returns-in_default c =
+pub returns-in_default-clause-value : goal.returns-in_default-clause-value
+returns-in_default-clause-value c =
     let bytes = c.args.bytes.now in
     let k = c.loop-k.k in
     let keeps = c.loop-k.invariant in
@@ -23,8 +23,8 @@ returns-in_default c =
     let large : nat_lt (code_value (take (k + 1) bytes)) (2 ^ 32) ≡ false = grind (arith, nat_tests, c.in_default.ensures) in
     sym (got ∙ rw large refl)
 
-pub returns-then-b-lt128 : goal.returns-then-b-lt128
-returns-then-b-lt128 c =
+pub returns-then-b-lt128-clause-value : goal.returns-then-b-lt128-clause-value
+returns-then-b-lt128-clause-value c =
     let bytes = c.args.bytes.now in
     let k = c.loop-k.k in
     let keeps = c.loop-k.invariant in
@@ -49,7 +49,7 @@ loop-k-preserved c =
     let digits : c.loop-k.value + (get_or bytes k 0 % 128) * c.loop-k.scale ≡ c.loop-k.value + c.from.result * c.loop-k.scale = ap (λ (n : ℕ). c.loop-k.value + n * c.loop-k.scale) (sym c.from.ensures) in
     (power-more c.loop-k.scale k keeps.0, digit-more c.loop-k.value c.loop-k.scale c.from.result keeps.1 digit, sym (value ∙ digits), omega arith, below_more _ _ keeps.4 high)
 
-pub returns : goal.returns
-returns c =
+pub returns-clause-value : goal.returns-clause-value
+returns-clause-value c =
     let before = c.loop-k.invariant.4 in
     sym (first_code-long c.args.bytes.now c.args.at (omega arith) (λ j h. before j (omega arith)))

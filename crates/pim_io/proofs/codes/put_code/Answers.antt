@@ -1,4 +1,4 @@
-use Rattle.std.proofs.Common.{◌≡◌, ℕ, suc, ◌+◌, ◌-◌, ◌^◌, ◌<◌, ◌++◌, List, length, take, sym, ap, ◌∙◌, refl, arith, vec_len, length-append, length-set}
+use Rattle.std.proofs.Common.{◌≡◌, ℕ, suc, ◌+◌, ◌-◌, ◌^◌, ◌<◌, ◌++◌, List, length, sym, ap, ◌∙◌, refl, arith, vec_len, length-append, length-set}
 use Rattle.pim_io.specs.declared.codes.Code.TheVariants.{Got}
 use Rattle.pim_io.specs.Codes.{code_within, code_of, code_at}
 use Rattle.pim_io.proofs.CodeLemmas.{code_at-code_of, take-more, take-last, length-code_of-le}
