@@ -1,3 +1,5 @@
+pub mod CodeLemmas
+mod Examples
 pub mod Labels
 pub mod LineCuts
 pub mod Wholes

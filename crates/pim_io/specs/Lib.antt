@@ -1,3 +1,4 @@
+pub mod Codes
 pub mod Lines
 pub mod Memory
 pub mod Names

@@ -31,7 +31,7 @@ digits_after value [] = value
 digits_after value (digit ∷ digits) = digits_after (value * 10 + (digit - 48)) digits
 
 -- the number of a word: 1 to 10 decimal digits, of a value below 2 ^ 32
-abbrev pub number_of : List ℕ → Option ℕ
+unfoldable pub number_of : List ℕ → Option ℕ
 number_of word =
     if nat_lt 0 (length word) && nat_le (length word) 10 && list_all is_digit word && nat_lt (digits_after 0 word) (2 ^ 32)
     then Some (digits_after 0 word)

@@ -2,6 +2,7 @@
 //! of names, borrowed scanning of lines and words, decimal numbers and seven-bit codes.
 #![tactic(auto)]
 
+mod codes;
 mod mem_sink;
 mod mem_source;
 mod memory;
@@ -12,10 +13,13 @@ mod scan;
 mod sink;
 mod slice_source;
 mod source;
+#[cfg(test)]
+mod tests;
 mod words;
 mod write_sink;
 mod writing;
 
+pub use codes::{Code, get_code, put_code};
 pub use mem_sink::MemSink;
 pub use mem_source::MemSource;
 pub use memory::NoMemory;

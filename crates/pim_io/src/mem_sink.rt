@@ -113,9 +113,8 @@ impl Sink for MemSink {
             self.faults = self.faults.saturating_add(1);
             return Err(SinkFault);
         }
-        let n = piece
-            .len()
-            .min(self.chunk.min(self.room - self.bytes.len()));
+        let most = self.chunk.min(self.room - self.bytes.len());
+        let n = piece.len().min(most);
         let Ok(()) = self.bytes.extend_from_slice(&piece[..n]) else {
             unreachable!();
         };

@@ -81,6 +81,7 @@ fn is_blank(b: u8) -> bool
 
 /// The number that a word spells: `Some` exactly for 1 to 10 decimal digits of a value below 2^32. Leading zeros are
 /// accepted.
+#[tactic(auto, unfolding(crate::specs::Words::number_of))]
 pub fn number(word: &[u8]) -> Option<u32>
     ensures { result ≡ number_of word.now }
 {
