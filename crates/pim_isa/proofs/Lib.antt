@@ -2,4 +2,5 @@ pub mod NoteLemmas
 pub mod RowLemmas
 pub mod SoundLemmas
 pub mod PrimedLemmas
+pub mod LoadLemmas
 mod Examples

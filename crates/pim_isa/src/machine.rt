@@ -1,6 +1,6 @@
 ghost use Rattle.std.specs.Prelude.{◌≡◌, ◌<◌, ◌≤◌, ◌↔◌, Bool, List, length, slice_get, IsTrue, IsNone, IfOk};
 ghost use Rattle.pim_isa.specs.Steps.{exec_k};
-ghost use Rattle.pim_isa.specs.Results.{load, fill_bit, bits_of};
+ghost use Rattle.pim_isa.specs.Results.{load, fill_bit, bits_of, IsLoaded};
 ghost use Rattle.pim_isa.specs.Machines.{next_of};
 
 use crate::program::Program;
@@ -67,6 +67,9 @@ impl<'a> Machine<'a> {
     pub fn step(&mut self) -> bool
         ensures more { IsTrue result ↔ (self.old.at < length self.old.program.instrs) }
         ensures next { self.new ≡ next_of self.old }
+        ensures program { self.new.program ≡ self.old.program }
+
+        // Where the row was that of the instructions so far, from any row at the start, it is so again.
         ensures follows { (start : List Bool) → self.old.row ≡ exec_k self.old.at self.old.program.instrs start
             → self.new.row ≡ exec_k self.new.at self.old.program.instrs start }
     {
