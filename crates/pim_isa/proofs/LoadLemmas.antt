@@ -1,5 +1,5 @@
 -- The row at the start, cell by cell.
-use Rattle.std.proofs.Common.{◌≡◌, ◌≢◌, ℕ, zero, suc, ◌<◌, Bool, true, false, eqb, List, [], ◌∷◌, length, set, replicate, refl, sym, ap, ◌∙◌, arith}
+use Rattle.std.proofs.Common.{◌≡◌, ◌≢◌, ℕ, zero, suc, ◌<◌, Bool, false, eqb, List, [], ◌∷◌, length, set, replicate, refl, sym, ◌∙◌, arith}
 use Rattle.std.specs.Prelude.{slice_index, All, AllPairs}
 use Rattle.std.proofs.lemmas.Bool.{eqb-false, ne_eqb}
 use Rattle.std.proofs.lemmas.List.{length-set, length-replicate, get_or-set_same, get_or-set_other, get_or-replicate}
@@ -38,8 +38,8 @@ input_cells (p ∷ ps) (b ∷ bits) m long within apart zero small =
     ∙ get_or-set_same m p.cell b false (All-head (λ (c : ℕ). c < length m) p.cell (cells_of ps) within)
 input_cells (p ∷ ps) (b ∷ bits) m long within apart (suc j) small =
     input_cells ps bits (set m p.cell b) (omega arith)
-      (λ k d fits. rw (length-set m p.cell b) (All-tail (λ (c : ℕ). c < length m) p.cell (cells_of ps) within k d fits))
-      (AllPairs-tail p.cell (cells_of ps) apart) j (omega arith)
+    (λ k d fits. rw (length-set m p.cell b) (All-tail (λ (c : ℕ). c < length m) p.cell (cells_of ps) within k d fits))
+    (AllPairs-tail p.cell (cells_of ps) apart) j (omega arith)
 
 -- the row at the start is what it is said to be, cell by cell
 pub load_is : (p : ProgramView) (fill : Fill) (bits : List Bool) → IsSound p → length bits ≡ length p.inputs → IsLoaded p fill bits (load p fill bits)
@@ -48,6 +48,6 @@ load_is p fill bits sound long =
     record {
       long = length-with_inputs p.inputs bits filled ∙ length-replicate p.cells (fill_bit fill);
       inputs = input_cells p.inputs bits filled long
-        (λ k d fits. rw (length-replicate p.cells (fill_bit fill)) (sound.inputs k d fits)) sound.distinct;
-      others = λ c small apart. other_cells p.inputs bits filled c apart ∙ get_or-replicate p.cells c (fill_bit fill) false small
+          (λ k d fits. rw (length-replicate p.cells (fill_bit fill)) (sound.inputs k d fits)) sound.distinct;
+      others = λ c small apart. other_cells p.inputs bits filled c apart ∙ get_or-replicate p.cells c (fill_bit fill) false small;
     }

@@ -1,5 +1,5 @@
 -- A draft has no fault exactly where it is sound.
-use Rattle.std.proofs.Common.{◌≡◌, ◌≢◌, ℕ, zero, suc, ◌+◌, ◌<◌, ◌≤◌, Bool, true, false, not, ◌||◌, cond, eqb, leb, List, [], ◌∷◌, ◌++◌, length, Option, Some, None, refl, sym, ap, ◌∙◌, subst, arith}
+use Rattle.std.proofs.Common.{◌≡◌, ◌≢◌, ℕ, zero, suc, ◌+◌, ◌<◌, Bool, true, false, not, ◌||◌, cond, eqb, leb, List, [], ◌∷◌, length, Option, Some, None, refl, ap, arith}
 use Rattle.std.specs.Prelude.{All, AllPairs}
 use Rattle.std.specs.Option.{option_or, option_map}
 use Rattle.std.proofs.lemmas.Bool.{leb-false, lt-leb, eqb-false, ne_eqb}
@@ -7,7 +7,6 @@ use Rattle.std.proofs.lemmas.List.Elements.{All-nil, All-cons, All-head, All-tai
 use Rattle.pim_isa.specs.declared.target.Target.{Target}
 use Rattle.pim_isa.specs.declared.instr.Instr.{Instr}
 use Rattle.pim_isa.specs.declared.port.Port.{Port}
-use Rattle.pim_isa.specs.declared.invalid.Invalid.{Invalid}
 use Rattle.pim_isa.specs.declared.invalid.Invalid.TheVariants as invalid
 use Rattle.pim_isa.specs.Programs.{ProgramView}
 use Rattle.pim_isa.specs.Touches.{names}

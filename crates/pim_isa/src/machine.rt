@@ -40,7 +40,10 @@ impl<'a> Machine<'a> {
         fill: Fill,
     ) -> Result<Machine<'a>, NoMemory>
         requires { length vector.now ≡ length program.now.inputs }
-        ensures { IfOk result (λ m. m ≡ record { program = program.now; row = load program.now fill vector.now; at = 0 }) }
+        ensures state { IfOk result (λ m. m ≡ record { program = program.now; row = load program.now fill vector.now; at = 0 }) }
+
+        // The same cell by cell.
+        ensures loaded { IfOk result (λ m. IsLoaded program.now fill vector.now m.row) }
     {
         let mut row = Vec::new(alloc);
         row.resize(program.cells() as usize, fill.bit())?;
@@ -55,7 +58,10 @@ impl<'a> Machine<'a> {
     /// Back to the start, with the bits of a line of as many characters `0` and `1` as inputs. Linear in the cells.
     pub fn reload(&mut self, line: &[u8], fill: Fill)
         requires { length line.now ≡ length self.old.program.inputs }
-        ensures { self.new ≡ record self.old { row = load self.old.program fill (bits_of line.now); at = 0 } }
+        ensures state { self.new ≡ record self.old { row = load self.old.program fill (bits_of line.now); at = 0 } }
+
+        // The same cell by cell.
+        ensures loaded { IsLoaded self.old.program fill (bits_of line.now) self.new.row }
     {
         self.row.fill(fill.bit());
         row::put_line(&mut self.row, self.program.inputs(), line);

@@ -1,4 +1,3 @@
-use Rattle.std.proofs.Common.{◌≡◌, length}
 use Rattle.pim_isa.proofs.NoteLemmas.{Notes-push}
 use Rattle.pim_isa.proofs.draft.ProgramDraft.add_input.Goals as goal
 

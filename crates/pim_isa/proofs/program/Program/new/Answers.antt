@@ -1,6 +1,5 @@
-use Rattle.std.proofs.Common.{◌≡◌, Some, None, sym, ◌∙◌}
+use Rattle.std.proofs.Common.{◌≡◌, None}
 use Rattle.pim_isa.specs.Validity.{fault_of}
-use Rattle.pim_isa.specs.Sound.{IsSound, IsProgram}
 use Rattle.pim_isa.proofs.SoundLemmas.{sound_from_none, none_from_sound}
 use Rattle.pim_isa.proofs.program.Program.new.Goals as goal
 
