@@ -1,0 +1,4 @@
+pub mod Labels
+pub mod LineCuts
+pub mod Wholes
+pub mod WordCuts

@@ -1,2 +1,5 @@
+pub mod Lines
+pub mod Memory
 pub mod Names
 pub mod Outside
+pub mod Words

@@ -1,5 +1,5 @@
 -- What a read and a write mean, on the bytes that are told, and how a count of faults rises.
-use Rattle.std.specs.Prelude.{◌≡◌, ℕ, ◌+◌, ◌-◌, ◌^◌, ◌≤◌, List, [], ◌++◌, Option, Some, None, take, drop, min}
+use Rattle.std.specs.Prelude.{◌≡◌, ℕ, ◌+◌, ◌-◌, ◌^◌, ◌≤◌, List, [], ◌++◌, Option, Some, None, length, take, drop, min}
 
 -- the count rose between the two moments, or it stands at its type's end
 abbrev pub Rose : ℕ → ℕ → Type 0
@@ -22,3 +22,40 @@ abbrev pub Takes : Option (List ℕ) → Option (List ℕ) → List ℕ → ℕ 
 Takes None _ piece n = Unit {0}
 Takes (Some bytes) None piece n = ⊥
 Takes (Some bytes) (Some now) piece n = now ≡ bytes ++ take n piece
+
+-- where the bytes are told before, they are told after, and P holds of both
+abbrev pub Told : Option (List ℕ) → Option (List ℕ) → (List ℕ → List ℕ → Type 0) → Type 0
+Told None _ P = Unit {0}
+Told (Some before) None P = ⊥
+Told (Some before) (Some now) P = P before now
+
+-- a source gave these bytes, and no others
+abbrev pub Gave : Option (List ℕ) → Option (List ℕ) → List ℕ → Type 0
+Gave left_before left_now bytes = Told left_before left_now (λ before now. before ≡ bytes ++ now)
+
+-- a source gave all that it had left
+abbrev pub GaveAll : Option (List ℕ) → Option (List ℕ) → List ℕ → Type 0
+GaveAll left_before left_now bytes = Told left_before left_now (λ before now. (before ≡ bytes) × (now ≡ []))
+
+-- a source gave its first n bytes
+abbrev pub GaveFirst : Option (List ℕ) → Option (List ℕ) → ℕ → Type 0
+GaveFirst left_before left_now n =
+    Told left_before left_now (λ before now. (n ≤ length before) × (now ≡ drop n before))
+
+-- a source gave some of its first bytes, at most n
+abbrev pub GaveAtMost : Option (List ℕ) → Option (List ℕ) → ℕ → Type 0
+GaveAtMost left_before left_now n =
+    Told left_before left_now (λ before now. (length before ≤ length now + n) × (now ≡ drop (length before - length now) before))
+
+-- a source has nothing left
+abbrev pub IsSpent : Option (List ℕ) → Option (List ℕ) → Type 0
+IsSpent left_before left_now = Told left_before left_now (λ before now. now ≡ [])
+
+-- a sink took the whole piece, and no more
+abbrev pub TookAll : Option (List ℕ) → Option (List ℕ) → List ℕ → Type 0
+TookAll taken_before taken_now piece = Told taken_before taken_now (λ before now. now ≡ before ++ piece)
+
+-- a sink took the first bytes of the piece, and no more
+abbrev pub TookFirst : Option (List ℕ) → Option (List ℕ) → List ℕ → Type 0
+TookFirst taken_before taken_now piece =
+    Told taken_before taken_now (λ before now. now ≡ before ++ take (length now - length before) piece)

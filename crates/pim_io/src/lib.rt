@@ -2,12 +2,30 @@
 //! of names, borrowed scanning of lines and words, decimal numbers and seven-bit codes.
 #![tactic(auto)]
 
+mod mem_sink;
+mod mem_source;
 mod memory;
 mod name;
+mod read_source;
+mod reading;
+mod scan;
 mod sink;
+mod slice_source;
 mod source;
+mod words;
+mod write_sink;
+mod writing;
 
+pub use mem_sink::MemSink;
+pub use mem_source::MemSource;
 pub use memory::NoMemory;
 pub use name::Name;
+pub use read_source::ReadSource;
+pub use reading::{ReadAllFault, read_all};
+pub use scan::{Line, Scan};
 pub use sink::{Sink, SinkFault};
+pub use slice_source::SliceSource;
 pub use source::{Source, SourceFault};
+pub use words::{Words, number};
+pub use write_sink::WriteSink;
+pub use writing::write_all;

@@ -1,5 +1,5 @@
 ghost use Rattle.std.specs.Prelude.{◌≡◌, ◌<◌, ◌≤◌, length, IfOk};
-ghost use Rattle.pim_io.specs.Names.{label, label_byte};
+ghost use Rattle.pim_io.specs.Names.{label, label_byte, IsLabel};
 
 use crate::NoMemory;
 use std::alloc::Global;
@@ -13,10 +13,13 @@ pub struct Name {
 
 impl Model for Name {
     ghost use Rattle.std.specs.Prelude.{ℕ, List};
+    ghost use Rattle.pim_io.specs.Names.{IsLabel};
 
     ghost Value = { List ℕ };
 
     ghost view = { λ n. n.bytes.items };
+
+    ghost invariant = { λ n. IsLabel n.bytes.items };
 }
 
 impl Name {
@@ -24,19 +27,28 @@ impl Name {
     pub fn label(alloc: Global, bytes: &[u8]) -> Result<Name, NoMemory>
         requires some { 0 < length bytes.now }
         requires short { length bytes.now ≤ 4096 }
-        ensures { IfOk result (λ name. name ≡ label bytes.now) }
+        ensures value { IfOk result (λ name. name ≡ label bytes.now) }
+        ensures kept { IfOk result (λ name. IsLabel bytes.now → name ≡ bytes.now) }
     {
-        Ok(Name {
-            bytes: bytes.iter().map(|b| label_byte(*b)).collect(alloc)?,
-        })
+        let bytes = shown(alloc, bytes)?;
+        Ok(Name { bytes })
     }
 
     /// The bytes of the label.
     pub fn bytes(&self) -> &[u8]
-        ensures { result.now ≡ self.now }
+        ensures value { result.now ≡ self.now }
+        ensures labels { IsLabel self.now }
+        ensures same { label self.now ≡ self.now }
     {
         self.bytes.as_slice()
     }
+}
+
+/// What is printed for the bytes of a name.
+fn shown(alloc: Global, bytes: &[u8]) -> Result<Vec<u8>, NoMemory>
+    ensures { IfOk result (λ v. v.items ≡ label bytes.now) }
+{
+    Ok(bytes.iter().map(|b| label_byte(*b)).collect(alloc)?)
 }
 
 /// What is printed for one byte of a name.

@@ -1,0 +1,188 @@
+-- The command line of `compile` refuses and reads as its definition does, and gives a number of cells.
+use Rattle.std.proofs.Common.{◌≡◌, ◌∙◌, ◌≤◌, ◌<◌, ◌==◌, ◌++◌, ◌⊎◌, ℕ, Bool, List, [], ◌∷◌, length, drop, cond, refl, sym, ap, ap₂, subst, true, false, zero, suc, inl, inr, arith, codes, pos}
+use Rattle.std.specs.Prelude.{Some, None, is_some, unwrap_or}
+use Rattle.std.specs.Borrow.{Bor}
+use Rattle.std.specs.List.{All, slice_index_or}
+use Rattle.std.specs.Str.{bytes_eq}
+use Rattle.std.specs.Str.Parse.{IsNumeral, digits_value, starts_with_minus, without_leading_plus}
+use Rattle.std.proofs.lemmas.Bool.{ne_eqb}
+use Rattle.std.proofs.lemmas.Int.{ints}
+use Rattle.std.proofs.lemmas.List.Elements.{All-nil}
+use Rattle.std.proofs.lemmas.Str.Parse.{digit_from_value}
+use Rattle.clap.specs.Facts.{args_of, groups_of, least_values}
+use Rattle.clap.specs.Faults.{built_fault, entered_fault, fault_of}
+use Rattle.clap.specs.Faults.{level_fault}
+use Rattle.clap.specs.Lexer.{without_minus}
+use Rattle.clap.specs.Matches.{found_of, one_text}
+use Rattle.clap.specs.Built.{AddsArg, IsParsedFrom, IsPlain, IsPlainArg}
+use Rattle.clap.specs.Simple.{App, Shape, app_of, built, entered, matches_of, new_app, with_rule}
+use Rattle.clap.specs.Values.{IsSignedIn}
+use Rattle.clap.specs.Walk.{Held, Rule, Text, Walk, nothing_held, rule_of, texts, walk}
+use Rattle.clap.specs.declared.builder.action.ArgAction.TheVariants.{Set}
+use Rattle.clap.specs.declared.builder.arg.Arg.{Arg}
+use Rattle.clap.specs.declared.builder.command.Command.{Command}
+use Rattle.clap.specs.declared.builder.command.Command.TheViews.{out-Command}
+use Rattle.clap.specs.declared.builder.value_parser.ValueParser.{ValueParser}
+use Rattle.clap.specs.declared.builder.value_parser.ValueParser.TheVariants as vp
+use Rattle.clap.specs.declared.builder.texts.Texts.TheVariants.{One}
+use Rattle.clap.specs.declared.parser.matches.ArgMatches.{ArgMatches}
+use Rattle.clap.proofs.CallerLemmas.{added_plain}
+use Rattle.clap.proofs.CallerReads.{required_reads}
+use Rattle.pim_words.specs.Lines.{compile_by, compile_line, one_of_names, option_of, required, with_default_text}
+use Rattle.pim_words.specs.Matches.{HasCells}
+use Rattle.pim_words.specs.Options.{HasRule}
+use Rattle.pim_words.specs.Reading.{ReadsAlike}
+use Rattle.pim_words.proofs.NamesFaults.{bare_shape, level_fault-bare}
+use Rattle.pim_words.proofs.NamesWalk.{bare_parser, rows_after-bare, walk-bare}
+
+-- ---- the definition
+
+abbrev leaf : Shape → App
+leaf s = record { top = s; subs = [] }
+
+leaf_fault-bare : (s : Shape) (h : Held) (words : List Text) → built_fault (leaf (bare_shape s)) h words ≡ built_fault (leaf s) h words
+leaf_fault-bare s h words =
+    let fails = λ (w : Walk). level_fault (bare_shape s) [] h words (is_some (entered (leaf s) w.stopped)) (entered_fault (leaf s) w.stopped) in
+    let w = walk s.rules [] h words in
+    ap fails (walk-bare s.rules [] h words) ∙ level_fault-bare s [] h words (is_some (entered (leaf s) w.stopped)) (entered_fault (leaf s) w.stopped)
+
+abbrev top_of : ValueParser → ValueParser → Shape
+top_of targets levels = (built (compile_by targets levels)).top
+
+faults-bare : (p q : ValueParser) (words : List Text) → fault_of (compile_by (bare_parser p) (bare_parser q)) words ≡ fault_of (compile_by p q) words
+faults-bare p q words = leaf_fault-bare (top_of p q) nothing_held (drop 1 words)
+
+matches-bare : (p q : ValueParser) (words : List Text) → matches_of (compile_by (bare_parser p) (bare_parser q)) words ≡ matches_of (compile_by p q) words
+matches-bare p q words = rows_after-bare (top_of p q).rules [] (drop 1 words)
+
+pub compile_alike : (targets levels : Bor (List (Bor Text))) → texts targets.now ≡ codes "magic" ∷ [] → texts levels.now ≡ codes "0" ∷ []
+    → ReadsAlike (compile_by (vp.Names targets) (vp.Names levels)) compile_line
+compile_alike targets levels target level = record {
+  simple = refl;
+  faults = λ words. sym (faults-bare (vp.Names targets) (vp.Names levels) words)
+      ∙ ap₂ (λ t l. fault_of (compile_by (one_of_names t) (one_of_names l)) words) target level;
+  matches = λ words. sym (matches-bare (vp.Names targets) (vp.Names levels) words)
+      ∙ ap₂ (λ t l. matches_of (compile_by (one_of_names t) (one_of_names l)) words) target level;
+}
+
+-- ---- the number of cells
+
+without_minus-cond : (t : Text) → without_minus t ≡ cond (starts_with_minus t) (drop 1 t) t
+without_minus-cond [] = refl
+without_minus-cond (x ∷ xs) = go (x == 45)
+  where
+    go : (b : Bool) → unwrap_or (cond b (Some xs) None) (x ∷ xs) ≡ cond b xs (x ∷ xs)
+    go true = refl
+    go false = refl
+
+pub no_plus : (ds : Text) → IsNumeral 10 ds → without_leading_plus ds ≡ ds
+no_plus [] h = refl
+no_plus (d ∷ ds) h =
+    let plus : (d == 43) ≡ false = ne_eqb _ _ (λ e. omega (arith, digit_from_value d h.1.0)) in
+    ap (λ (b : Bool). drop (cond b 1 0) (d ∷ ds)) plus
+
+abbrev IsCells : Text → Type 0
+IsCells t = IsNumeral 10 (without_leading_plus t) × (digits_value 10 (without_leading_plus t) ≤ 1048576)
+
+number_read : (t : Text) → IsSignedIn (pos 0) (pos 1048576) t → IsCells (without_minus t)
+number_read t passed = subst IsCells (sym (without_minus-cond t)) (go (starts_with_minus t) refl)
+  where
+    go : (b : Bool) → starts_with_minus t ≡ b → IsCells (cond (starts_with_minus t) (drop 1 t) t)
+    go true minus =
+        let low = rw minus at passed.2 in
+        let high = rw minus at passed.3 in
+        let numeral : IsNumeral 10 (drop 1 t) = rw minus at passed.0 in
+        let small : digits_value 10 (drop 1 t) ≤ 1048576 = omega (arith, ints) in
+        let same : IsCells (drop 1 t) = rw (no_plus (drop 1 t) numeral) (numeral, small) in
+        rw minus same
+    go false minus =
+        let high = rw minus at passed.3 in
+        let numeral : IsNumeral 10 (without_leading_plus t) = rw minus at passed.0 in
+        let small : digits_value 10 (without_leading_plus t) ≤ 1048576 = omega (arith, ints) in
+        let same : IsCells t = (numeral, small) in
+        rw minus same
+
+-- ---- the arguments
+
+pub with_required : (r : Rule) (o a : Arg) → HasRule r o → a ≡ record o { required = true } → HasRule (required r) a
+with_required r o a has is = record {
+  reads = ap rule_of is ∙ ap required has.reads;
+  plain = subst IsPlainArg (sym is) has.plain;
+  local = ap (λ (x : Arg). x.global) is ∙ has.local;
+  undivided = ap (λ (x : Arg). x.val_delim) is ∙ has.undivided;
+  filled = subst (λ (x : Arg). 1 ≤ least_values x) (sym is) has.filled;
+}
+
+pub with_default : (r : Rule) (o a : Arg) (text : Bor Text) → HasRule r o → a ≡ record o { default_vals = One text } → HasRule (with_default_text text.now r) a
+with_default r o a text has is = record {
+  reads = ap rule_of is ∙ ap (with_default_text text.now) has.reads;
+  plain = subst IsPlainArg (sym is) has.plain;
+  local = ap (λ (x : Arg). x.global) is ∙ has.local;
+  undivided = ap (λ (x : Arg). x.val_delim) is ∙ has.undivided;
+  filled = subst (λ (x : Arg). 1 ≤ least_values x) (sym is) has.filled;
+}
+
+abbrev pub target_rule : ValueParser → Rule
+target_rule targets = required (option_of (codes "target") targets)
+
+abbrev pub cells_rule : Rule
+cells_rule = required (option_of (codes "cells") (vp.Signed (pos 0) (pos 1048576)))
+
+abbrev pub level_rule : ValueParser → Rule
+level_rule levels = with_default_text (codes "0") (option_of (codes "level") levels)
+
+pub line_is : (c0 c1 c2 c3 : Command) (a0 a1 a2 : Arg) (targets levels : ValueParser) → AddsArg c0 a0 c1 → AddsArg c1 a1 c2 → AddsArg c2 a2 c3
+    → app_of c0 ≡ new_app (codes "compile") → HasRule (target_rule targets) a0 → HasRule cells_rule a1 → HasRule (level_rule levels) a2
+    → app_of c3 ≡ compile_by targets levels
+line_is c0 c1 c2 c3 a0 a1 a2 targets levels add0 add1 add2 new has0 has1 has2 =
+    add2.shape has2.local ∙ ap₂ with_rule (add1.shape has1.local ∙ ap₂ with_rule (add0.shape has0.local ∙ ap₂ with_rule new has0.reads) has1.reads) has2.reads
+
+pub cells_read : (c0 c1 c2 c3 : Command) (a0 a1 a2 : Arg) (targets levels : ValueParser) → AddsArg c0 a0 c1 → AddsArg c1 a1 c2 → AddsArg c2 a2 c3
+    → args_of c0 ≡ [] → groups_of c0 ≡ [] → (out-Command c0).has_globals ≡ false → (out-Command c0).subcommand_negates_reqs ≡ false
+    → HasRule (target_rule targets) a0 → HasRule cells_rule a1 → HasRule (level_rule levels) a2
+    → (m : ArgMatches) → IsParsedFrom c3 m → HasCells m
+cells_read c0 c1 c2 c3 a0 a1 a2 targets levels add0 add1 add2 args groups globals negates has0 has1 has2 m parsed =
+    let id1 : a1.id.now ≡ codes "cells" = ap (λ (r : Rule). r.id) has1.reads in
+    let list : args_of c3 ≡ add0.arg ∷ add1.arg ∷ add2.arg ∷ [] =
+    add2.args ∙ ap (λ l. l ++ add2.arg ∷ []) (add1.args ∙ ap (λ l. l ++ add1.arg ∷ []) (add0.args ∙ ap (λ l. l ++ add0.arg ∷ []) args)) in
+    let is_plain0 : IsPlain c0 = (subst (All IsPlainArg) (sym args) (All-nil IsPlainArg), groups) in
+    let is_plain : IsPlain c3 = added_plain c2 c3 a2 add2 (added_plain c1 c2 a1 add1 (added_plain c0 c1 a0 add0 is_plain0 has0.plain) has1.plain) has2.plain in
+    let no_globals : (out-Command c3).has_globals ≡ false = rw (add2.globals, add1.globals, add0.globals, globals, has0.local, has1.local, has2.local) refl in
+    let no_negates : (out-Command c3).subcommand_negates_reqs ≡ false = add2.negates ∙ (add1.negates ∙ (add0.negates ∙ negates)) in
+    let at : slice_index_or (args_of c3) 1 a1 ≡ add1.arg = ap (λ l. slice_index_or l 1 a1) list in
+    let name : (slice_index_or (args_of c3) 1 a1).id.now ≡ codes "cells" = ap (λ (x : Arg). x.id.now) at ∙ (ap (λ (i : Bor Text). i.now) add1.rules.id ∙ id1) in
+    let inside : 1 < length (args_of c3) = subst (λ l. 1 < length l) (sym list) (omega arith) in
+    let read = required_reads c3 m parsed is_plain no_globals no_negates 1 a1 inside
+    (ap (λ (x : Arg). x.required) at ∙ (add1.rules.required ∙ ap (λ (r : Rule). r.required) has1.reads))
+    (ap (λ (x : Arg). x.action) at ∙ add1.rules.action Set (ap (λ (r : Rule). r.action) has1.reads))
+    (ap (λ (x : Arg). x.val_delim) at ∙ (add1.rules.val_delim ∙ has1.undivided))
+    (subst (λ (x : Arg). 1 ≤ least_values x) (sym at) (add1.rules.least (ap (λ (r : Rule). r.action) has1.reads) has1.filled))
+    (λ j e low same. only j e (subst (λ l. j < length l) list low)
+    (subst (λ (l : List Arg). bytes_eq (slice_index_or l j e).id.now (codes "cells") ≡ true) list
+    (subst (λ (t : Text). bytes_eq (slice_index_or (args_of c3) j e).id.now t ≡ true) name same)))
+    (λ e. let bad : codes "cells" ≡ [] = sym name ∙ e in cc)
+    (λ auto. not_auto (subst (λ (t : Text). (t ≡ codes "help") ⊎ (t ≡ codes "version")) name auto))
+    (vp.Signed (pos 0) (pos 1048576)) (ap (λ (x : Arg). x.value_parser) at ∙ add1.rules.parser _ (ap (λ (r : Rule). r.parser) has1.reads)) in
+    let number = number_read read.0 read.2 in
+    record {
+      text = without_minus read.0;
+      is_value = subst (λ (t : Text). one_text (found_of m) t ≡ Some (without_minus read.0)) name read.1;
+      is_number = number.0;
+      fits = number.1;
+    }
+  where
+    not_auto : (codes "cells" ≡ codes "help") ⊎ (codes "cells" ≡ codes "version") → ⊥
+    not_auto (inl e) = cc
+    not_auto (inr e) = cc
+
+    only : (j : ℕ) (e : Arg) → j < 3 → bytes_eq (slice_index_or (add0.arg ∷ add1.arg ∷ add2.arg ∷ []) j e).id.now (codes "cells") ≡ true → j ≡ 1
+    only zero e low same =
+        let is : add0.arg.id.now ≡ codes "target" = ap (λ (i : Bor Text). i.now) add0.rules.id ∙ ap (λ (r : Rule). r.id) has0.reads in
+        let bad : false ≡ true = subst (λ (t : Text). bytes_eq t (codes "cells") ≡ true) is same in
+        cc
+    only (suc zero) e low same = refl
+    only (suc (suc zero)) e low same =
+        let is : add2.arg.id.now ≡ codes "level" = ap (λ (i : Bor Text). i.now) add2.rules.id ∙ ap (λ (r : Rule). r.id) has2.reads in
+        let bad : false ≡ true = subst (λ (t : Text). bytes_eq t (codes "cells") ≡ true) is same in
+        cc
+    only (suc (suc (suc j))) e low same = absurd (omega arith)

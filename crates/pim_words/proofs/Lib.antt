@@ -1,0 +1,4 @@
+pub mod NamesWalk
+pub mod NamesFaults
+pub mod CompileLine
+pub mod PlainWords

@@ -1,0 +1,6 @@
+pub mod Lines
+pub mod Matches
+pub mod Options
+pub mod Plain
+pub mod Program
+pub mod Reading

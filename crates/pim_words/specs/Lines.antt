@@ -1,0 +1,46 @@
+-- The command line of each command, as `clap` reads it.
+use Rattle.std.specs.Prelude.{List, [], ◌∷◌, Option, Some, None, map, pos, codes}
+use Rattle.std.specs.Prelude.{if◌then◌else◌, true}
+use Rattle.std.specs.Borrow.{Bor}
+use Rattle.std.specs.Str.{bytes_eq}
+use Rattle.clap.specs.Words.{App, Rule, Text, new_app, new_rule, with_rule}
+use Rattle.clap.specs.declared.builder.action.ArgAction.TheVariants.{Set}
+use Rattle.clap.specs.declared.builder.value_parser.ValueParser.{ValueParser}
+use Rattle.clap.specs.declared.builder.value_parser.ValueParser.TheVariants as vp
+
+-- a reference to x; where it points plays no part in what is read
+abbrev pub lent : {X : Type 0} → X → Bor X
+lent x = record { ref_ptr = (0, 0); now = x }
+
+-- the value is one of these names
+abbrev pub one_of_names : List Text → ValueParser
+one_of_names names = vp.Names (lent (map lent names))
+
+-- the option `--name`, which has one value
+abbrev pub option_of : Text → ValueParser → Rule
+option_of name parser =
+    record (new_rule name) { long = Some name; action = Some Set; parser = Some parser }
+
+abbrev pub required : Rule → Rule
+required a = record a { required = true }
+
+abbrev pub with_default_text : Text → Rule → Rule
+with_default_text text a = record a { defaults = text ∷ [] }
+
+-- `compile`, by what its `--target` and its `--level` take
+abbrev pub compile_by : ValueParser → ValueParser → App
+compile_by targets levels =
+    with_rule
+    (with_rule
+    (with_rule (new_app (codes "compile")) (required (option_of (codes "target") targets)))
+    (required (option_of (codes "cells") (vp.Signed (pos 0) (pos 1048576)))))
+    (with_default_text (codes "0") (option_of (codes "level") levels))
+
+-- `compile --target magic --cells N [--level 0]`, with N from 0 to 1,048,576
+abbrev pub compile_line : App
+compile_line =
+    compile_by (one_of_names (codes "magic" ∷ [])) (one_of_names (codes "0" ∷ []))
+
+-- the command line of the command with this name, where it is built
+abbrev pub cli : Text → Option App
+cli name = if bytes_eq name (codes "compile") then Some compile_line else None

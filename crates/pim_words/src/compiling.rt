@@ -1,0 +1,79 @@
+//! The words of `compile`: `--target magic --cells N [--level 0]`.
+ghost use Rattle.std.specs.Prelude.{◌≡◌, IfOk, OnOk, false, map, option_map, true, codes};
+ghost use Rattle.std.specs.String.{string_bytes};
+ghost use Rattle.clap.specs.Words.{app_of, found_of, kind_of, one_text, IsParsedFrom};
+ghost use Rattle.clap.specs.declared.parser.matches.ArgMatches.{ArgMatches};
+ghost use Rattle.pim_words.specs.Lines.{compile_line};
+ghost use Rattle.pim_words.specs.Matches.{HasCells};
+ghost use Rattle.pim_words.specs.Reading.{IsWithin, ReadsAlike, compile_said, compile_with, refuses};
+
+use crate::options::option_of;
+use crate::{Command, LevelWord, TargetWord, WordsFault};
+use clap::builder::ValueParser;
+use clap::error::ErrorKind;
+use clap::{ArgMatches, Error};
+use std::alloc::{AllocError, Global};
+
+static TARGETS: [&str; 1] = ["magic"];
+
+static LEVELS: [&str; 1] = ["0"];
+
+/// The command line of `compile`, as `clap` reads it.
+fn compile_line<'a>(alloc: Global) -> Result<clap::Command<'a>, AllocError>
+    ensures alike { IfOk result (λ line. ReadsAlike (app_of line) compile_line) }
+    ensures cells { IfOk result (λ line. (m : ArgMatches) → IsParsedFrom line m → HasCells m) }
+{
+    let target = option_of(alloc, "target", ValueParser::Names(TARGETS.as_slice())).required(true);
+    let number = clap::value_parser!(u32).range(0..=1_048_576);
+    let cells = option_of(alloc, "cells", number).required(true);
+    let level = option_of(alloc, "level", ValueParser::Names(LEVELS.as_slice())).default_value("0");
+    clap::Command::new(alloc, "compile")
+        .arg(target)?
+        .arg(cells)?
+        .arg(level)
+}
+
+/// Reads the words of `compile`, the name among them.
+pub fn read_compile(alloc: Global, words: &[String]) -> Result<Command, WordsFault>
+    ensures usage { result ≡ Err WordsFault.Usage
+        → refuses (map string_bytes words.now) compile_line ≡ true }
+    ensures accepted { OnOk result (refuses (map string_bytes words.now) compile_line ≡ false) }
+    ensures value { IfOk result (λ c. compile_said (map string_bytes words.now) compile_line ≡ Some c) }
+    ensures within { IfOk result IsWithin }
+{
+    let Ok(line) = compile_line(alloc) else {
+        return Err(WordsFault::NoMemory);
+    };
+    match line.try_get_matches_from(words) {
+        Ok(matches) => Ok(compile_of(&matches)),
+        Err(error) => Err(fault_of(&error)),
+    }
+}
+
+/// The command that the matches of `compile` say.
+fn compile_of(matches: &ArgMatches) -> Command
+    requires { HasCells matches.now }
+    ensures said { option_map compile_with (one_text (found_of matches.now) (codes "cells"))
+        ≡ Some result }
+    ensures within { IsWithin result }
+{
+    match matches.get_one::<u32>("cells") {
+        Some(cells) => Command::Compile {
+            target: TargetWord::Magic,
+            level: LevelWord::Zero,
+            cells,
+        },
+        None => unreachable!(),
+    }
+}
+
+/// Whether `clap` gave up for want of memory or refused the words.
+fn fault_of(error: &Error) -> WordsFault
+    ensures memory { kind_of error.now ≡ ErrorKind.OutOfMemory → result ≡ WordsFault.NoMemory }
+    ensures usage { result ≡ WordsFault.NoMemory → kind_of error.now ≡ ErrorKind.OutOfMemory }
+{
+    match error.kind() {
+        ErrorKind::OutOfMemory => WordsFault::NoMemory,
+        _ => WordsFault::Usage,
+    }
+}

@@ -1,0 +1,17 @@
+//! The options of a command line.
+ghost use Rattle.pim_words.specs.Lines.{option_of};
+ghost use Rattle.pim_words.specs.Options.{HasRule};
+
+use clap::builder::ValueParser;
+use clap::{Arg, ArgAction};
+use std::alloc::Global;
+
+/// The option `--name`, with one value that the parser takes.
+pub fn option_of<'a>(alloc: Global, name: &'a str, parser: ValueParser<'a>) -> Arg<'a>
+    ensures { HasRule (option_of name.entry.now parser.entry) result }
+{
+    Arg::new(alloc, name)
+        .long(name)
+        .action(ArgAction::Set)
+        .value_parser(parser)
+}

@@ -1,0 +1,35 @@
+//! Reading the words of any command.
+ghost use Rattle.std.specs.Prelude.{◌≡◌, IfOk, MatchResult, OnOk, false, map, true};
+ghost use Rattle.std.specs.String.{string_bytes};
+ghost use Rattle.pim_words.specs.declared.command.Command.{Command};
+ghost use Rattle.pim_words.specs.Plain.{IsPlain};
+ghost use Rattle.pim_words.specs.Reading.{IsWithin, command_said, is_usage, names_command};
+
+use crate::compiling::read_compile;
+use crate::{Command, WordsFault};
+use std::alloc::Global;
+
+/// Reads the words after the program's name: the name of a command, and then its options.
+///
+/// Words are refused exactly where there is none, where the first names no command that is built,
+/// or where `clap` refuses them for another cause than memory, a wish for help among these. That
+/// memory was wanting is claimed nowhere: `NoMemory` may come wherever a command is named.
+pub fn read(alloc: Global, words: &[String]) -> Result<Command, WordsFault>
+    ensures usage { result ≡ Err WordsFault.Usage → is_usage (map string_bytes words.now) ≡ true }
+    ensures accepted { OnOk result (is_usage (map string_bytes words.now) ≡ false) }
+    ensures unknown { names_command (map string_bytes words.now) ≡ false
+        → result ≡ Err WordsFault.Usage }
+    ensures plain { (c : Command) → IsPlain c (map string_bytes words.now)
+        → MatchResult result (λ r. r ≡ c) (λ e. e ≡ WordsFault.NoMemory) }
+    ensures value { IfOk result (λ c. command_said (map string_bytes words.now) ≡ Some c) }
+    ensures within { IfOk result IsWithin }
+{
+    let Some(name) = words.first() else {
+        return Err(WordsFault::Usage);
+    };
+    if name.as_str() == "compile" {
+        read_compile(alloc, words)
+    } else {
+        Err(WordsFault::Usage)
+    }
+}
