@@ -14,6 +14,8 @@ invariant_of-result c =
       small = c.fault.ensures.small;
       few_ports = c.requires.few_ports;
       few_instrs = c.requires.few_instrs;
+      input_labels = c.fault.ensures.input_labels;
+      output_labels = c.fault.ensures.output_labels;
       faultless = none;
       sound = sound_from_none c.args.draft none;
     })
