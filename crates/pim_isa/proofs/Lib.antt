@@ -3,4 +3,5 @@ pub mod RowLemmas
 pub mod SoundLemmas
 pub mod PrimedLemmas
 pub mod LoadLemmas
+pub mod StepLemmas
 mod Examples
