@@ -1,7 +1,6 @@
 -- Worked examples of the definitions, by computation.
-use Rattle.std.proofs.Common.{◌≡◌, ℕ, Bool, true, false, List, [], ◌∷◌, ◌++◌, Some, None, refl}
+use Rattle.std.proofs.Common.{◌≡◌, ℕ, Bool, true, false, List, [], ◌∷◌, Some, None, refl}
 use Rattle.std.specs.Prelude.{IsTrue}
-use Rattle.pim_isa.specs.declared.target.Target.{Target}
 use Rattle.pim_isa.specs.declared.target.Target.TheVariants.{Magic, Plim}
 use Rattle.pim_isa.specs.declared.target.Fill.TheVariants as fill
 use Rattle.pim_isa.specs.declared.port.Port.{Port}
@@ -14,7 +13,7 @@ use Rattle.pim_isa.specs.Programs.{ProgramView}
 use Rattle.pim_isa.specs.Validity.{fault_of}
 use Rattle.pim_isa.specs.Steps.{step, exec, exec_k}
 use Rattle.pim_isa.specs.Primed.{IsPrimed}
-use Rattle.pim_isa.specs.Live.{IsLive, is_live_in}
+use Rattle.pim_isa.specs.Live.{IsLive}
 use Rattle.pim_isa.specs.Results.{load, result_of}
 use Rattle.pim_isa.proofs.PrimedLemmas.{primed_from_front, front_from_primed}
 

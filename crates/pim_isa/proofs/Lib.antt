@@ -2,4 +2,6 @@ pub mod NoteLemmas
 pub mod RowLemmas
 pub mod SoundLemmas
 pub mod PrimedLemmas
+pub mod LoadLemmas
+pub mod StepLemmas
 mod Examples

@@ -1,12 +1,12 @@
 -- Rows of bits: how long they stay, and how the executions of two lists follow one another.
-use Rattle.std.proofs.Common.{◌≡◌, ℕ, zero, suc, ◌+◌, ◌<◌, ◌≤◌, min, Bool, true, List, [], ◌∷◌, ◌++◌, length, take, drop, set, Option, Some, None, ◌⊎◌, inl, inr, refl, sym, ap, ◌∙◌, subst, arith}
+use Rattle.std.proofs.Common.{◌≡◌, ℕ, zero, suc, ◌+◌, ◌<◌, ◌≤◌, min, Bool, true, List, [], ◌∷◌, ◌++◌, length, take, drop, set, Some, ◌⊎◌, inl, inr, refl, ap, ◌∙◌, arith}
 use Rattle.std.specs.Prelude.{slice_get}
 use Rattle.std.proofs.lemmas.Bool.{cases_lt}
 use Rattle.std.proofs.lemmas.List.{length-set, drop_all}
 use Rattle.pim_isa.specs.declared.port.Port.{Port}
 use Rattle.pim_isa.specs.declared.instr.Instr.{Instr}
 use Rattle.pim_isa.specs.declared.instr.Instr.TheVariants.{Init, Nor, Rm3}
-use Rattle.pim_isa.specs.Steps.{bit, set_ones, step, exec, exec_k}
+use Rattle.pim_isa.specs.Steps.{set_ones, step, exec, exec_k}
 use Rattle.pim_isa.specs.Results.{with_inputs}
 
 pub length-set_ones : (cells : List ℕ) (m : List Bool) → length (set_ones cells m) ≡ length m

@@ -1,5 +1,5 @@
 -- A draft has no fault exactly where it is sound.
-use Rattle.std.proofs.Common.{◌≡◌, ◌≢◌, ℕ, zero, suc, ◌+◌, ◌<◌, ◌≤◌, Bool, true, false, not, ◌||◌, cond, eqb, leb, List, [], ◌∷◌, ◌++◌, length, Option, Some, None, refl, sym, ap, ◌∙◌, subst, arith}
+use Rattle.std.proofs.Common.{◌≡◌, ◌≢◌, ℕ, zero, suc, ◌+◌, ◌<◌, Bool, true, false, not, ◌||◌, cond, eqb, leb, List, [], ◌∷◌, length, Option, Some, None, refl, ap, arith}
 use Rattle.std.specs.Prelude.{All, AllPairs}
 use Rattle.std.specs.Option.{option_or, option_map}
 use Rattle.std.proofs.lemmas.Bool.{leb-false, lt-leb, eqb-false, ne_eqb}
@@ -7,18 +7,17 @@ use Rattle.std.proofs.lemmas.List.Elements.{All-nil, All-cons, All-head, All-tai
 use Rattle.pim_isa.specs.declared.target.Target.{Target}
 use Rattle.pim_isa.specs.declared.instr.Instr.{Instr}
 use Rattle.pim_isa.specs.declared.port.Port.{Port}
-use Rattle.pim_isa.specs.declared.invalid.Invalid.{Invalid}
 use Rattle.pim_isa.specs.declared.invalid.Invalid.TheVariants as invalid
 use Rattle.pim_isa.specs.Programs.{ProgramView}
 use Rattle.pim_isa.specs.Touches.{names}
 use Rattle.pim_isa.specs.Validity.{suits, has_good_list, leaves, has, reads_target, instr_fault, first_instr_fault, bad_input, bad_output, bad_port, fault_of}
 use Rattle.pim_isa.specs.Sound.{cells_of, IsValid, IsSound}
 
-or_falses : (a b : Bool) → (a || b) ≡ false → (a ≡ false) × (b ≡ false)
+pub or_falses : (a b : Bool) → (a || b) ≡ false → (a ≡ false) × (b ≡ false)
 or_falses true b e = cc
 or_falses false b e = (refl, e)
 
-or_from_falses : (a b : Bool) → a ≡ false → b ≡ false → (a || b) ≡ false
+pub or_from_falses : (a b : Bool) → a ≡ false → b ≡ false → (a || b) ≡ false
 or_from_falses true b e f = cc
 or_from_falses false b e f = f
 
@@ -120,10 +119,10 @@ AllPairs-cons x xs first rest (suc i) zero d before small = absurd (omega arith)
 AllPairs-cons x xs first rest zero (suc j) d before small = first j d (omega arith)
 AllPairs-cons x xs first rest (suc i) (suc j) d before small = rest i j d (omega arith) (omega arith)
 
-AllPairs-head : (x : ℕ) (xs : List ℕ) → AllPairs ◌≢◌ (x ∷ xs) → All (λ (y : ℕ). x ≢ y) xs
+pub AllPairs-head : (x : ℕ) (xs : List ℕ) → AllPairs ◌≢◌ (x ∷ xs) → All (λ (y : ℕ). x ≢ y) xs
 AllPairs-head x xs pairs k d small = pairs zero (suc k) d (omega arith) (omega arith)
 
-AllPairs-tail : (x : ℕ) (xs : List ℕ) → AllPairs ◌≢◌ (x ∷ xs) → AllPairs ◌≢◌ xs
+pub AllPairs-tail : (x : ℕ) (xs : List ℕ) → AllPairs ◌≢◌ (x ∷ xs) → AllPairs ◌≢◌ xs
 AllPairs-tail x xs pairs i j d before small = pairs (suc i) (suc j) d (omega arith) (omega arith)
 
 -- the inputs lie in the cells, apart from one another and from the earlier ones

@@ -1,8 +1,8 @@
 -- When the value in a cell is still wanted.
-use Rattle.std.specs.Prelude.{ℕ, Bool, true, false, if◌then◌else◌, List, [], ◌∷◌, drop, map, IsTrue}
+use Rattle.std.specs.Prelude.{ℕ, Bool, if◌then◌else◌, List, [], ◌∷◌, drop, map, IsTrue}
 use Rattle.pim_isa.specs.declared.instr.Instr.{Instr}
 use Rattle.pim_isa.specs.Programs.{ProgramView}
-use Rattle.pim_isa.specs.Touches.{writes, reads, names}
+use Rattle.pim_isa.specs.Touches.{reads, names}
 use Rattle.pim_isa.specs.Validity.{has}
 
 -- the first instruction that names the cell reads it; or none names it and it is an output cell

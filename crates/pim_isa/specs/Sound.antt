@@ -1,5 +1,6 @@
 -- What holds of every program.
-use Rattle.std.specs.Prelude.{◌≡◌, ◌≢◌, ℕ, ◌+◌, ◌^◌, ◌<◌, ◌≤◌, Bool, true, false, List, length, map, Option, None, All, AllPairs}
+use Rattle.std.specs.Prelude.{◌≡◌, ◌≢◌, ℕ, ◌+◌, ◌^◌, ◌<◌, ◌≤◌, true, false, List, length, map, None, All, AllPairs}
+use Rattle.pim_io.specs.Names.{IsLabel}
 use Rattle.pim_isa.specs.declared.target.Target.{Target}
 use Rattle.pim_isa.specs.declared.instr.Instr.{Instr}
 use Rattle.pim_isa.specs.declared.port.Port.{Port}
@@ -27,10 +28,16 @@ pub record IsSound (p : ProgramView) : Type 0 where
   pub outputs : All (λ c. c < p.cells) (cells_of p.outputs)
   pub instrs : All (IsValid p.target p.cells) p.instrs
 
+-- the label of a port is one: 1 to 4,096 bytes, none of them below 32 or 127
+abbrev pub HasLabel : Port → Type 0
+HasLabel p = IsLabel p.label
+
 -- a draft within the bounds that has no fault
 pub record IsProgram (p : ProgramView) : Type 0 where
   pub small : p.cells ≤ MAX_CELLS
   pub few_ports : length p.inputs + length p.outputs < 2 ^ 28
   pub few_instrs : length p.instrs < 2 ^ 28
+  pub input_labels : All HasLabel p.inputs
+  pub output_labels : All HasLabel p.outputs
   pub faultless : fault_of p ≡ None
   pub sound : IsSound p

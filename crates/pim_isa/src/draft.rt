@@ -1,7 +1,8 @@
-ghost use Rattle.std.specs.Prelude.{◌≡◌, ℕ, ◌+◌, ◌<◌, ◌≤◌, ◌^◌, [], ◌∷◌, ◌++◌, true, false, ◌||◌, nat_le, if◌then◌else◌, length, slice_index_or, slice_set, Some, None, OnOk, OnErr};
+ghost use Rattle.std.specs.Prelude.{◌≡◌, ℕ, ◌+◌, ◌<◌, ◌≤◌, ◌^◌, [], ◌∷◌, ◌++◌, true, false, ◌||◌, nat_le, if◌then◌else◌, length, slice_index_or, slice_set, Some, None, All, OnOk, OnErr};
 ghost use Rattle.std.specs.Option.{option_or};
 ghost use Rattle.pim_io.specs.Names.{label as label_of};
 ghost use Rattle.pim_isa.specs.Validity.{fault_of};
+ghost use Rattle.pim_isa.specs.Sound.{HasLabel};
 
 use crate::instr::Instr;
 use crate::invalid::Invalid;
@@ -33,10 +34,8 @@ pub struct ProgramDraft {
 }
 
 impl Model for ProgramDraft {
-    ghost use Rattle.std.specs.Prelude.{◌≤◌};
     ghost use Rattle.pim_isa.specs.Programs.{ProgramView};
-    ghost use Rattle.pim_isa.specs.Inputs.{Notes};
-    ghost use Rattle.pim_isa.specs.declared.draft.TheConstants.{MAX_CELLS};
+    ghost use Rattle.pim_isa.specs.Inputs.{IsDraft};
 
     ghost Value = { ProgramView };
 
@@ -48,7 +47,7 @@ impl Model for ProgramDraft {
       instrs = d.instrs.items;
     } };
 
-    ghost invariant = { λ d. (d.cells ≤ MAX_CELLS) × Notes d.cells d.inputs.items d.marks.items d.bad_input };
+    ghost invariant = { λ d. IsDraft d.cells d.inputs.items d.outputs.items d.marks.items d.bad_input };
 }
 
 impl ProgramDraft {
@@ -114,6 +113,8 @@ impl ProgramDraft {
         requires few_instrs { length self.now.instrs < 2 ^ 28 }
         ensures fault { result ≡ fault_of self.now }
         ensures small { self.now.cells ≤ MAX_CELLS }
+        ensures input_labels { All HasLabel self.now.inputs }
+        ensures output_labels { All HasLabel self.now.outputs }
     {
         let bad_port = self.bad_input.or(check::bad_output(
             self.cells,

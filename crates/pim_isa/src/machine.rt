@@ -1,6 +1,6 @@
 ghost use Rattle.std.specs.Prelude.{◌≡◌, ◌<◌, ◌≤◌, ◌↔◌, Bool, List, length, slice_get, IsTrue, IsNone, IfOk};
 ghost use Rattle.pim_isa.specs.Steps.{exec_k};
-ghost use Rattle.pim_isa.specs.Results.{load, fill_bit, bits_of};
+ghost use Rattle.pim_isa.specs.Results.{load, fill_bit, bits_of, IsLoaded};
 ghost use Rattle.pim_isa.specs.Machines.{next_of};
 
 use crate::program::Program;
@@ -40,7 +40,10 @@ impl<'a> Machine<'a> {
         fill: Fill,
     ) -> Result<Machine<'a>, NoMemory>
         requires { length vector.now ≡ length program.now.inputs }
-        ensures { IfOk result (λ m. m ≡ record { program = program.now; row = load program.now fill vector.now; at = 0 }) }
+        ensures state { IfOk result (λ m. m ≡ record { program = program.now; row = load program.now fill vector.now; at = 0 }) }
+
+        // The same cell by cell.
+        ensures loaded { IfOk result (λ m. IsLoaded program.now fill vector.now m.row) }
     {
         let mut row = Vec::new(alloc);
         row.resize(program.cells() as usize, fill.bit())?;
@@ -55,7 +58,10 @@ impl<'a> Machine<'a> {
     /// Back to the start, with the bits of a line of as many characters `0` and `1` as inputs. Linear in the cells.
     pub fn reload(&mut self, line: &[u8], fill: Fill)
         requires { length line.now ≡ length self.old.program.inputs }
-        ensures { self.new ≡ record self.old { row = load self.old.program fill (bits_of line.now); at = 0 } }
+        ensures state { self.new ≡ record self.old { row = load self.old.program fill (bits_of line.now); at = 0 } }
+
+        // The same cell by cell.
+        ensures loaded { IsLoaded self.old.program fill (bits_of line.now) self.new.row }
     {
         self.row.fill(fill.bit());
         row::put_line(&mut self.row, self.program.inputs(), line);
@@ -67,6 +73,9 @@ impl<'a> Machine<'a> {
     pub fn step(&mut self) -> bool
         ensures more { IsTrue result ↔ (self.old.at < length self.old.program.instrs) }
         ensures next { self.new ≡ next_of self.old }
+        ensures program { self.new.program ≡ self.old.program }
+
+        // Where the row was that of the instructions so far, from any row at the start, it is so again.
         ensures follows { (start : List Bool) → self.old.row ≡ exec_k self.old.at self.old.program.instrs start
             → self.new.row ≡ exec_k self.new.at self.old.program.instrs start }
     {

@@ -56,15 +56,23 @@ fn runs_an_and(rt: HostRuntime) -> Result<(), Fail> {
     assert!(rt; !machine.step());
     assert_eq!(rt; machine.at(), 4);
     assert_eq!(rt; machine.cell(4), Some(true));
+    assert_eq!(rt; machine.cell(5), None);
+    Ok(())
+}
+
+#[test]
+fn starts_again(rt: HostRuntime) -> Result<(), Fail> {
+    let program = Program::new(and_draft(rt.alloc())?)?;
+    let mut machine = Machine::load(rt.alloc(), &program, &[true, true], Fill::Zeros)?;
+    assert!(rt; machine.step());
     machine.reload(b"10", Fill::Ones);
     assert_eq!(rt; machine.at(), 0);
+    assert_eq!(rt; machine.cell(0), Some(true));
     assert_eq!(rt; machine.cell(1), Some(false));
     for _ in 0..4 {
         assert!(rt; machine.step());
     }
-    assert!(rt; !machine.step());
     assert_eq!(rt; machine.cell(4), Some(false));
-    assert_eq!(rt; machine.cell(5), None);
     Ok(())
 }
 

@@ -1,4 +1,4 @@
-use Rattle.std.proofs.Common.{◌≡◌, ℕ, min, length, sym, ◌∙◌, rules}
+use Rattle.std.proofs.Common.{◌≡◌, min, length, sym, ◌∙◌, rules}
 use Rattle.std.proofs.lemmas.Slice.Zip.{zip_end}
 use Rattle.pim_isa.proofs.RowLemmas.{with_inputs_end}
 use Rattle.pim_isa.proofs.row.put_inputs.Goals as goal

@@ -11,7 +11,7 @@ overflow_cast-result c =
     ≡ option_or (bad_input c.self.inside.cells 0 [] c.self.inside.inputs.items)
     (bad_output c.self.inside.cells (length c.self.inside.inputs.items) c.self.inside.outputs.items) =
     c.in-Some.ensures
-    ∙ rw (c.bad_output.ensures, c.self.invariant.1.first, c.len.ensures, c.self.inside.inputs.ok.0, c.deref.ensures.value) in
+    ∙ rw (c.bad_output.ensures, c.self.invariant.notes.first, c.len.ensures, c.self.inside.inputs.ok.0, c.deref.ensures.value) in
     let is_place : Some c.in-Some.place ≡ bad_port c.args.self.now = rw (← c.self.view_is) found in
     let below : c.in-Some.place < length c.args.self.now.inputs + length c.args.self.now.outputs =
     subst (λ (o : Option ℕ). IfSome o (λ n. n < length c.args.self.now.inputs + length c.args.self.now.outputs)) (sym is_place)

@@ -1,6 +1,8 @@
-use Rattle.std.proofs.Common.{◌≡◌, ◌≤◌, length, replicate, arith, ◌∙◌, sym, ap}
-use Rattle.std.proofs.lemmas.List.{length-replicate}
+use Rattle.std.proofs.Common.{◌≡◌, arith, ◌∙◌, sym}
+use Rattle.std.proofs.lemmas.Grind.{common_steps}
+use Rattle.pim_isa.specs.Results.{load}
 use Rattle.pim_isa.proofs.RowLemmas.{length-with_inputs}
+use Rattle.pim_isa.proofs.LoadLemmas.{load_is}
 use Rattle.pim_isa.proofs.machine.Machine.load.Goals as goal
 
 -- a bit for each cell
@@ -11,3 +13,8 @@ invariant_of-result c = (
   omega arith,
   c.cells.ensures.valid,
 )
+
+pub returns-clause-loaded : goal.returns-clause-loaded
+returns-clause-loaded c =
+    let same : c.put_inputs.new.row.items ≡ load c.args.program.now c.args.fill c.args.vector.now = grind (arith, common_steps) in
+    rw same (load_is c.args.program.now c.args.fill c.args.vector.now c.cells.ensures.valid.sound c.requires)

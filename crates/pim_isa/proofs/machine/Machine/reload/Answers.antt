@@ -1,6 +1,10 @@
-use Rattle.std.proofs.Common.{◌≡◌, ◌≤◌, length, replicate, arith, ◌∙◌, sym}
+use Rattle.std.proofs.Common.{◌≡◌, length, arith, ◌∙◌, sym, ap, ℕ, eqb}
+use Rattle.pim_isa.specs.Machines.{MachineView}
+use Rattle.std.proofs.lemmas.Grind.{common_steps}
+use Rattle.std.proofs.lemmas.List.{length-map}
 use Rattle.pim_isa.proofs.RowLemmas.{length-with_inputs}
-use Rattle.pim_isa.specs.Results.{bits_of}
+use Rattle.pim_isa.proofs.LoadLemmas.{load_is}
+use Rattle.pim_isa.specs.Results.{bits_of, load}
 use Rattle.pim_isa.proofs.machine.Machine.reload.Goals as goal
 
 -- a bit for each cell
@@ -10,3 +14,10 @@ invariant_of-self c = (
   omega arith,
   c.self.invariant.2,
 )
+
+pub returns-clause-loaded : goal.returns-clause-loaded
+returns-clause-loaded c =
+    let same : c.put_line.new.row.items ≡ load c.self.inside.program.now c.args.fill (bits_of c.args.line.now) = grind (arith, common_steps) in
+    rw (← c.self.view_is, same)
+    (load_is c.self.inside.program.now c.args.fill (bits_of c.args.line.now) c.self.invariant.2.sound
+    (length-map c.args.line.now (λ (b : ℕ). eqb b 49) ∙ c.requires ∙ ap (λ (m : MachineView). length m.program.inputs) (sym c.self.view_is)))

@@ -1,8 +1,7 @@
-use Rattle.std.proofs.Common.{◌≡◌, ◌≤◌, ◌<◌, ◌+◌, List, Bool, length, arith, ap, ◌∙◌, sym, Some}
+use Rattle.std.proofs.Common.{◌≡◌, ◌<◌, List, Bool, length, arith, ap, ◌∙◌, sym, Some}
 use Rattle.std.specs.Prelude.{slice_get}
 use Rattle.std.proofs.lemmas.Grind.{common_steps}
 use Rattle.std.proofs.lemmas.Option.{gets, slice_get_within}
-use Rattle.pim_isa.specs.declared.instr.Instr.{Instr}
 use Rattle.pim_isa.specs.Steps.{step}
 use Rattle.pim_isa.proofs.RowLemmas.{length-step, exec_k-suc}
 use Rattle.pim_isa.proofs.machine.Machine.step.Goals as goal

@@ -1,6 +1,5 @@
-use Rattle.std.proofs.Common.{◌≡◌, Some, None, sym, ◌∙◌}
+use Rattle.std.proofs.Common.{◌≡◌, None}
 use Rattle.pim_isa.specs.Validity.{fault_of}
-use Rattle.pim_isa.specs.Sound.{IsSound, IsProgram}
 use Rattle.pim_isa.proofs.SoundLemmas.{sound_from_none, none_from_sound}
 use Rattle.pim_isa.proofs.program.Program.new.Goals as goal
 
@@ -15,6 +14,8 @@ invariant_of-result c =
       small = c.fault.ensures.small;
       few_ports = c.requires.few_ports;
       few_instrs = c.requires.few_instrs;
+      input_labels = c.fault.ensures.input_labels;
+      output_labels = c.fault.ensures.output_labels;
       faultless = none;
       sound = sound_from_none c.args.draft none;
     })
