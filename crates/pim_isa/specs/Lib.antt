@@ -2,7 +2,7 @@ pub mod Touches
 pub mod Programs
 pub mod Validity
 pub mod Sound
-pub mod Inputs
+pub mod Drafts
 pub mod Steps
 pub mod Primed
 pub mod Live

@@ -12,12 +12,10 @@ pub(crate) fn bad_output(cells: u32, first: usize, outputs: &[Port]) -> Option<u
     requires { first + length outputs.now < 2 ^ 28 }
     ensures { result ≡ bad_output cells first outputs.now }
 {
-    let mut place = first;
-    for port in outputs {
+    for (k, port) in outputs.iter().enumerate() {
         if port.cell >= cells {
-            return Some(place);
+            return Some(first + k);
         }
-        place += 1;
     }
     None
 }
@@ -27,12 +25,10 @@ pub(crate) fn first_instr_fault(target: Target, cells: u32, instrs: &[Instr]) ->
     requires { length instrs.now < 2 ^ 28 }
     ensures { result ≡ first_instr_fault target cells 0 instrs.now }
 {
-    let mut place = 0;
-    for instr in instrs {
-        if let Some(fault) = instr_fault(target, cells, place, instr) {
+    for (place, instr) in instrs.iter().enumerate() {
+        if let Some(fault) = instr_fault(target, cells, place as u32, instr) {
             return Some(fault);
         }
-        place += 1;
     }
     None
 }

@@ -35,7 +35,7 @@ pub struct ProgramDraft {
 
 impl Model for ProgramDraft {
     ghost use Rattle.pim_isa.specs.Programs.{ProgramView};
-    ghost use Rattle.pim_isa.specs.Inputs.{IsDraft};
+    ghost use Rattle.pim_isa.specs.Drafts.{IsDraft};
 
     ghost Value = { ProgramView };
 
