@@ -1,0 +1,84 @@
+-- Small drafts, with their faults, values and depths by computation.
+use Rattle.std.specs.Prelude.{◌≡◌, ℕ, true, false, List, [], ◌∷◌, Some, None, refl}
+use Rattle.pim_net.specs.Netlist.{DraftView, NetView}
+use Rattle.pim_net.specs.Values.{outs}
+use Rattle.pim_net.specs.Depths.{depth}
+use Rattle.pim_net.specs.Faults.{net_fault}
+use Rattle.pim_net.specs.declared.cover.Bit3.{Bit3}
+use Rattle.pim_net.specs.declared.cover.Bit3.TheVariants.{Zero, One, Any}
+use Rattle.pim_net.specs.declared.parts.Equation.{Equation}
+use Rattle.pim_net.specs.declared.parts.OutRef.{OutRef}
+use Rattle.pim_net.specs.declared.fault.NetFault.TheVariants.{Twice, Undriven, Cycle}
+
+-- an equation whose cover holds where these cells do
+abbrev row : ℕ → List ℕ → List Bit3 → Equation
+row s ins cells = record { sig = s; cover = record { ins = ins; rows = cells ∷ []; phase = true } }
+
+abbrev out : ℕ → OutRef
+out s = record { sig = s; neg = false }
+
+abbrev draft : List ℕ → List Equation → List OutRef → DraftView
+draft inputs equations outputs =
+    record { inputs = inputs; input_labels = []; equations = equations; outputs = outputs; output_labels = [] }
+
+-- signal 2 is signal 0 and signal 1; the outputs are signal 2 and its complement
+abbrev and_net : NetView
+and_net = record {
+  inputs = 0 ∷ 1 ∷ [];
+  input_labels = [];
+  equations = row 2 (0 ∷ 1 ∷ []) (One ∷ One ∷ []) ∷ [];
+  outputs = out 2 ∷ record { sig = 2; neg = true } ∷ [];
+  output_labels = [];
+  topo = 0 ∷ [];
+}
+
+and_of_ones : outs and_net (true ∷ true ∷ []) ≡ true ∷ false ∷ []
+and_of_ones = refl
+
+and_of_one : outs and_net (true ∷ false ∷ []) ≡ false ∷ true ∷ []
+and_of_one = refl
+
+-- a cover of phase 0, whose one row asks for a 0 and passes over a column
+off_net : NetView
+off_net = record {
+  inputs = 0 ∷ 1 ∷ [];
+  input_labels = [];
+  equations = record { sig = 2; cover = record { ins = 0 ∷ 1 ∷ []; rows = (Zero ∷ Any ∷ []) ∷ []; phase = false } } ∷ [];
+  outputs = out 2 ∷ [];
+  output_labels = [];
+  topo = 0 ∷ [];
+}
+
+off_set : outs off_net (false ∷ true ∷ []) ≡ false ∷ []
+unfolding off_net
+off_set = refl
+
+off_set_else : outs off_net (true ∷ true ∷ []) ≡ true ∷ []
+unfolding off_net
+off_set_else = refl
+
+-- the AND is well-formed, and its depth is 1
+and_fault : net_fault (draft (0 ∷ 1 ∷ []) (row 2 (0 ∷ 1 ∷ []) (One ∷ One ∷ []) ∷ []) (out 2 ∷ [])) ≡ None
+and_fault = refl
+
+and_depth : depth (0 ∷ 1 ∷ []) (row 2 (0 ∷ 1 ∷ []) (One ∷ One ∷ []) ∷ []) 2 ≡ Some 1
+and_depth = refl
+
+-- a signal that equals itself
+itself : net_fault (draft [] (row 5 (5 ∷ []) (One ∷ []) ∷ []) (out 5 ∷ [])) ≡ Some (Cycle (5 ∷ []))
+itself = refl
+
+-- 3 reads 4 and 4 reads 3; what reads the cycle is not part of it
+two_cycle : net_fault (draft [] (row 7 (3 ∷ []) (One ∷ []) ∷ row 3 (4 ∷ []) (One ∷ []) ∷ row 4 (3 ∷ []) (One ∷ []) ∷ []) (out 7 ∷ [])) ≡ Some (Cycle (3 ∷ 4 ∷ []))
+two_cycle = refl
+
+-- an equation's column before an output
+column_undriven : net_fault (draft (0 ∷ []) (row 1 (0 ∷ 8 ∷ []) (One ∷ One ∷ []) ∷ []) (out 9 ∷ [])) ≡ Some (Undriven 8)
+column_undriven = refl
+
+output_undriven : net_fault (draft (0 ∷ []) [] (out 0 ∷ out 9 ∷ [])) ≡ Some (Undriven 9)
+output_undriven = refl
+
+-- the second driver of 2 comes before that of 1, and before the want of one for 6
+second_driver : net_fault (draft (0 ∷ 1 ∷ 2 ∷ []) (row 2 (6 ∷ []) (One ∷ []) ∷ row 1 (0 ∷ []) (One ∷ []) ∷ []) (out 2 ∷ [])) ≡ Some (Twice 2)
+second_driver = refl

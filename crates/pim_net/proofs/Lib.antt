@@ -1,0 +1,13 @@
+pub mod Buckets
+pub mod DepthLemmas
+pub mod Equations
+pub mod Exact
+pub mod Marking
+pub mod Repeats
+pub mod Rows
+pub mod SignalsRead
+pub mod Tables
+pub mod Trails
+pub mod ValueLaws
+pub mod Wiring
+mod Examples

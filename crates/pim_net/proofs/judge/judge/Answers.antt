@@ -1,0 +1,60 @@
+use Rattle.std.proofs.Common.{◌+◌, ◌<◌, ℕ, List, length, get_or, ap, sym, ◌∙◌, subst, inr}
+use Rattle.std.specs.Prelude.{find, IsPermutation}
+use Rattle.std.specs.List.{range_with_len}
+use Rattle.std.proofs.lemmas.Result.{err_from_is_err_and}
+use Rattle.pim_net.specs.Drivers.{read, is_nobody}
+use Rattle.pim_net.specs.Tables.{drivers_of}
+use Rattle.pim_net.specs.Walks.{IsWired, IsLevelled, IsBefore, IsCycle}
+use Rattle.pim_net.specs.declared.driver.Driver.{Driver}
+use Rattle.pim_net.specs.declared.mark.Mark.{Mark}
+use Rattle.pim_net.proofs.Wiring.{wired, well_formed, sound, lacking, refused, by_depth, ready}
+use Rattle.pim_net.proofs.judge.judge.Goals as goal
+
+pub returns-in-Some : goal.returns-in-Some
+returns-in-Some c =
+    let es = c.args.equations.now in
+    let outputs = c.args.outputs.now in
+    let table = c.in_ok-table.table.items in
+    let found = ap (λ (t : List Driver). find (λ s. is_nobody (drivers_of t s)) (read es outputs)) (sym c.as_slice.ensures.value) ∙ sym c.undriven.ensures ∙ c.in-Some.is in
+    inr (lacking c.args.inputs.now es outputs table c.in-Some.sig (c.in_ok-table.ensures).0 (c.in_ok-table.ensures).2 found)
+
+pub levels-requires : goal.levels-requires
+levels-requires c =
+    let es = c.args.equations.now in
+    let outputs = c.args.outputs.now in
+    let table = c.in_ok-table.table.items in
+    let all = ap (λ (t : List Driver). find (λ s. is_nobody (drivers_of t s)) (read es outputs)) (sym c.as_slice.ensures.value) ∙ sym c.undriven.ensures ∙ c.in_default.is in
+    subst (IsWired es) (sym c.as_slice-2.ensures.value)
+    (wired c.args.inputs.now es outputs table c.signal_count-size.result (c.in_ok-table.ensures).0 (c.in_ok-table.ensures).1 (c.in_ok-table.ensures).2 c.signal_count-size.ensures.columns all c.requires.equations_few c.requires.columns_few)
+
+pub returns-in_err-marks : goal.returns-in_err-marks
+returns-in_err-marks c =
+    let es = c.args.equations.now in
+    let outputs = c.args.outputs.now in
+    let table = c.in_ok-table.table.items in
+    let all = ap (λ (t : List Driver). find (λ s. is_nobody (drivers_of t s)) (read es outputs)) (sym c.as_slice.ensures.value) ∙ sym c.undriven.ensures ∙ c.in_default.is in
+    let p = err_from_is_err_and c.from_residual-in_err-marks.result c.from_residual-in_err-marks.ensures.1 in
+    let cycle = subst (λ (t : List Driver). IsCycle es t c.in_err-marks.field-0.0) c.as_slice-2.ensures.value c.in_err-marks.ensures in
+    rw (p.1, p.2) (refused c.args.inputs.now es outputs table c.in_err-marks.field-0.0 (c.in_ok-table.ensures).0 (c.in_ok-table.ensures).2 all cycle)
+
+pub returns : goal.returns
+returns c =
+    let inputs = c.args.inputs.now in
+    let es = c.args.equations.now in
+    let outputs = c.args.outputs.now in
+    let table = c.in_ok-table.table.items in
+    let marks = c.in_ok-marks.marks.items in
+    let topo = c.in_ok-topo.topo.items in
+    let once = (c.in_ok-table.ensures).0 in
+    let same = (c.in_ok-table.ensures).2 in
+    let all = ap (λ (t : List Driver). find (λ s. is_nobody (drivers_of t s)) (read es outputs)) (sym c.as_slice.ensures.value) ∙ sym c.undriven.ensures ∙ c.in_default.is in
+    let wires = wired inputs es outputs table c.signal_count-size.result once (c.in_ok-table.ensures).1 same c.signal_count-size.ensures.columns all c.requires.equations_few c.requires.columns_few in
+    let levelled = subst (λ (t : List Driver). IsLevelled es t marks) c.as_slice-2.ensures.value c.in_ok-marks.ensures in
+    let whole = subst (λ (m : List Mark). IsPermutation (range_with_len 0 (length m)) topo) c.as_slice-3.ensures.value c.in_ok-topo.ensures.once in
+    let rising = subst (λ (m : List Mark). (i : ℕ) → i + 1 < length topo → IsBefore m (get_or topo i 0) (get_or topo (i + 1) 0)) c.as_slice-3.ensures.value c.in_ok-topo.ensures.rising in
+    record {
+      sound = sound inputs es outputs table marks once same all levelled;
+      well_formed = well_formed inputs es outputs table marks once same all levelled;
+      by_depth = by_depth inputs es table marks topo same levelled whole rising;
+      ready = ready inputs es table marks topo wires same levelled whole rising;
+    }

@@ -1,0 +1,48 @@
+use Rattle.std.proofs.Common.{◌≡◌, length, get_or, ap, sym, ◌∙◌, arith}
+use Rattle.pim_net.specs.Walks.{ins, marked_depth, depth_mark}
+use Rattle.pim_net.specs.declared.driver.Driver.TheVariants.{Nobody}
+use Rattle.pim_net.proofs.Equations.{ins_read}
+use Rattle.pim_net.proofs.visit.next.Goals as goal
+
+pub bounds-in-Cover : goal.bounds-in-Cover
+bounds-in-Cover c =
+    let k = c.in-Cover.k in
+    omega (arith, c.requires.sized, (c.requires.wired.covers (get_or c.ins-columns.result.now c.args.at.column 0) k c.in-Cover.is).0)
+
+pub returns-in-Input : goal.returns-in-Input
+returns-in-Input c =
+    let at = c.args.at in
+    let same : c.ins-columns.result.now ≡ ins c.args.equations.now at.equation = c.ins-columns.ensures.ins ∙ sym (ins_read c.args.equations.now at.equation c.index-equations-at.result c.requires.known) in
+    let long = ap length same in (
+      omega (arith, long, c.if-column-columns.false, c.requires.within),
+      ap (λ l. marked_depth c.args.marks.now (get_or c.args.table.now (get_or l at.column 0) Nobody)) (sym same) ∙ ap (marked_depth c.args.marks.now) c.in-Input.is,
+    )
+
+pub returns-in-New : goal.returns-in-New
+returns-in-New c =
+    let at = c.args.at in
+    let same : c.ins-columns.result.now ≡ ins c.args.equations.now at.equation = c.ins-columns.ensures.ins ∙ sym (ins_read c.args.equations.now at.equation c.index-equations-at.result c.requires.known) in
+    let long = ap length same in (
+      omega (arith, long, c.if-column-columns.false, c.requires.within),
+      ap (λ l. get_or c.args.table.now (get_or l at.column 0) Nobody) (sym same) ∙ c.in-Cover.is,
+      c.in-New.is,
+    )
+
+pub returns-in-Open : goal.returns-in-Open
+returns-in-Open c =
+    let at = c.args.at in
+    let same : c.ins-columns.result.now ≡ ins c.args.equations.now at.equation = c.ins-columns.ensures.ins ∙ sym (ins_read c.args.equations.now at.equation c.index-equations-at.result c.requires.known) in
+    let long = ap length same in (
+      omega (arith, long, c.if-column-columns.false, c.requires.within),
+      ap (λ l. get_or c.args.table.now (get_or l at.column 0) Nobody) (sym same) ∙ c.in-Cover.is,
+      c.in-Open.is,
+    )
+
+pub returns-in-Deep : goal.returns-in-Deep
+returns-in-Deep c =
+    let at = c.args.at in
+    let same : c.ins-columns.result.now ≡ ins c.args.equations.now at.equation = c.ins-columns.ensures.ins ∙ sym (ins_read c.args.equations.now at.equation c.index-equations-at.result c.requires.known) in
+    let long = ap length same in (
+      omega (arith, long, c.if-column-columns.false, c.requires.within),
+      ap (λ l. marked_depth c.args.marks.now (get_or c.args.table.now (get_or l at.column 0) Nobody)) (sym same) ∙ ap (marked_depth c.args.marks.now) c.in-Cover.is ∙ ap depth_mark c.in-Deep.is,
+    )

@@ -1,0 +1,13 @@
+pub mod Covers
+pub mod Depths
+pub mod Drivers
+pub mod Faults
+pub mod Judged
+pub mod Labels
+pub mod Laws
+pub mod Netlist
+pub mod Order
+pub mod Tables
+pub mod Values
+pub mod Walks
+pub mod WellFormed

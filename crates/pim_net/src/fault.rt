@@ -1,0 +1,55 @@
+use crate::Signals;
+use pim_io::NoMemory;
+use std::alloc::{AllocError, AllocFailed};
+use thiserror::Error;
+
+/// Why a draft is no netlist.
+#[derive(Debug, Drop, Error)]
+pub enum NetFault {
+    /// The first driver, inputs in order and then equations in order, whose signal an earlier one drives.
+    #[error("a signal has two drivers")]
+    Twice(u32),
+    /// The first signal that is read, by equations and their columns in order and then by outputs in order, and that
+    /// nothing drives.
+    #[error("a signal has no driver")]
+    Undriven(u32),
+    /// Signals of which each one's equation reads the next, and the last one's the first.
+    #[error("signals form a cycle")]
+    Cycle(Signals),
+    /// There was no memory.
+    #[error("no memory")]
+    NoMemory,
+}
+
+impl From<NoMemory> for NetFault {
+    ghost use Rattle.std.specs.Prelude.{◌≡◌};
+    ghost use Rattle.pim_net.specs.declared.fault.NetFault.TheVariants as fault;
+
+    ghost from_gives = { λ _ e. e ≡ fault.NoMemory };
+
+    fn from(_error: NoMemory) -> NetFault {
+        NetFault::NoMemory
+    }
+}
+
+impl From<AllocError> for NetFault {
+    ghost use Rattle.std.specs.Prelude.{◌≡◌};
+    ghost use Rattle.pim_net.specs.declared.fault.NetFault.TheVariants as fault;
+
+    ghost from_gives = { λ _ e. e ≡ fault.NoMemory };
+
+    fn from(_error: AllocError) -> NetFault {
+        NetFault::NoMemory
+    }
+}
+
+impl<T: Drop> From<AllocFailed<T>> for NetFault {
+    ghost use Rattle.std.specs.Prelude.{◌≡◌};
+    ghost use Rattle.pim_net.specs.declared.fault.NetFault.TheVariants as fault;
+
+    ghost from_gives = { λ _ e. e ≡ fault.NoMemory };
+
+    fn from(_error: AllocFailed<T>) -> NetFault {
+        NetFault::NoMemory
+    }
+}

@@ -1,0 +1,36 @@
+ghost use Rattle.std.specs.Prelude.{◌≡◌, ◌<◌, ◌^◌, All, MatchResult, length};
+ghost use Rattle.pim_net.specs.Faults.{IsRefusal};
+ghost use Rattle.pim_net.specs.Judged.{IsJudged};
+
+use crate::count::signal_count;
+use crate::levels::levels;
+use crate::table::drivers;
+use crate::topo::by_depth;
+use crate::undriven::undriven;
+use crate::{Equation, NetFault, OutRef};
+use std::alloc::Global;
+
+/// The numbers of the equations by depth and then in order, or the fault of these parts. Linear in the parts and the
+/// greatest signal.
+pub(crate) fn judge(
+    alloc: Global,
+    inputs: &[u32],
+    equations: &[Equation],
+    outputs: &[OutRef],
+) -> Result<Vec<u32>, NetFault>
+    requires inputs_few { length inputs.now < 2 ^ 28 }
+    requires equations_few { length equations.now < 2 ^ 28 }
+    requires columns_few { All (λ e. length e.cover.ins < 2 ^ 28) equations.now }
+    ensures { MatchResult result
+        (λ topo. IsJudged inputs.now equations.now outputs.now topo.items)
+        (IsRefusal inputs.now equations.now outputs.now) }
+{
+    let size = signal_count(inputs, equations, outputs);
+    let table = drivers(alloc, inputs, equations, size)?;
+    if let Some(sig) = undriven(equations, outputs, table.as_slice()) {
+        return Err(NetFault::Undriven(sig));
+    }
+    let marks = levels(alloc, equations, table.as_slice())?;
+    let topo = by_depth(alloc, marks.as_slice())?;
+    Ok(topo)
+}

@@ -1,0 +1,32 @@
+//! Netlists of covers: a draft is gathered part by part, and a check of it gives a netlist whose signals all have one
+//! driver and a depth, with its equations ordered by depth, or the first fault with its evidence.
+#![tactic(auto)]
+
+mod count;
+mod cover;
+mod draft;
+mod driver;
+mod fault;
+mod judge;
+mod kind;
+mod levels;
+mod mark;
+mod names;
+mod net;
+mod parts;
+mod signals;
+mod table;
+#[cfg(test)]
+mod tests;
+mod topo;
+mod undriven;
+mod visit;
+
+pub use cover::{Bit3, Cover};
+pub use draft::Draft;
+pub use fault::NetFault;
+pub use kind::Kind;
+pub use names::Names;
+pub use net::Net;
+pub use parts::{Equation, OutRef};
+pub use signals::Signals;

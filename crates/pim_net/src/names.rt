@@ -1,0 +1,66 @@
+ghost use Rattle.std.specs.Prelude.{◌≡◌, ◌<◌, ◌≤◌, ◌+◌, ◌++◌, ◌∷◌, [], length, OnOk, OnErr, Some, option_map, slice_get};
+ghost use Rattle.pim_io.specs.Names.{label};
+ghost use Rattle.pim_net.specs.Labels.{IsLabel};
+
+use pim_io::{Name, NoMemory};
+use std::alloc::Global;
+use std::marker::Model;
+
+/// The labels of signals, one per signal, in the order of their numbers.
+#[derive(Debug, Drop)]
+pub struct Names {
+    labels: Vec<Name>,
+    alloc: Global,
+}
+
+impl Model for Names {
+    ghost use Rattle.std.specs.Prelude.{ℕ, List, All};
+    ghost use Rattle.pim_net.specs.Labels.{IsLabel};
+
+    ghost Value = { List (List ℕ) };
+
+    ghost view = { λ n. n.labels.items };
+
+    ghost invariant = { λ n. All IsLabel n.labels.items };
+}
+
+impl Names {
+    /// No labels. It takes no memory.
+    pub fn new(alloc: Global) -> Names
+        ensures { result ≡ [] }
+    {
+        Names {
+            labels: Vec::new(alloc),
+            alloc,
+        }
+    }
+
+    /// Appends the label of a name of 1 to 4,096 bytes. After a refusal the labels are as before.
+    pub fn push(&mut self, name: &[u8]) -> Result<(), NoMemory>
+        requires { IsLabel name.now }
+        ensures ok { OnOk result (self.new ≡ self.old ++ label name.now ∷ []) }
+        ensures err { OnErr result (self.new ≡ self.old) }
+    {
+        let label = Name::label(self.alloc, name)?;
+        self.labels.push(label)?;
+        Ok(())
+    }
+
+    /// The label of a signal: 1 to 4,096 bytes.
+    pub fn get(&self, sig: u32) -> &[u8]
+        requires { sig < length self.now }
+        ensures label { slice_get self.now sig ≡ Some result.now }
+        ensures bytes { IsLabel result.now }
+        ensures same { label result.now ≡ result.now }
+    {
+        self.labels[sig as usize].bytes()
+    }
+
+    /// The label of a signal, where there is one of that number.
+    pub fn find(&self, sig: u32) -> Option<&[u8]>
+        ensures { option_map (λ label. label.now) result ≡ slice_get self.now sig }
+    {
+        let name = self.labels.get(sig as usize)?;
+        Some(name.bytes())
+    }
+}
