@@ -1,0 +1,4 @@
+pub mod Examples
+pub mod FirstLine
+pub mod Many
+pub mod Symbols

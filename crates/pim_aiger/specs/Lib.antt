@@ -1,0 +1,9 @@
+pub mod Cursor
+pub mod Deltas
+pub mod Files
+pub mod HeaderLine
+pub mod Literals
+pub mod Numbers
+pub mod Steps
+pub mod SymbolTable
+pub mod TextLines

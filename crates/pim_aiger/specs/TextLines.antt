@@ -1,0 +1,26 @@
+-- The lines of text in an AIGER file.
+use Rattle.std.specs.Prelude.{ℕ, ◌+◌, ◌-◌, ◌==◌, List, [], ◌∷◌, length, take, slice_index, Result, Ok, Err, if◌then◌else◌}
+use Rattle.pim_io.specs.Lines.{LineView, lines}
+use Rattle.pim_aiger.specs.declared.fault.AigerFault.{AigerFault}
+use Rattle.pim_aiger.specs.declared.fault.AigerFault.TheVariants as faults
+use Rattle.pim_aiger.specs.Cursor.{Cursor, end_of, further}
+
+-- a text without the carriage return that it ends in
+abbrev pub without_return : List ℕ → List ℕ
+without_return text = if slice_index text (length text - 1) == 13 then take (length text - 1) text else text
+
+-- the text of a line: a carriage return right before the newline is no part of it
+abbrev pub text_of : LineView → List ℕ
+text_of line = if line.ended then without_return line.text else line.text
+
+-- the first of the lines, where it ends in a newline
+abbrev pub whole_line : Cursor → List LineView → Result (List ℕ × Cursor) AigerFault
+whole_line c [] = Err (faults.Truncated (end_of c))
+whole_line c (line ∷ lines) =
+    if line.ended
+    then Ok (without_return line.text, further (length line.text + 1) c)
+    else Err (faults.Truncated (end_of c))
+
+-- the text of the next line, which is there only with its newline
+unfoldable pub line_at : Cursor → Result (List ℕ × Cursor) AigerFault
+line_at c = whole_line c (lines c.rest)

@@ -1,0 +1,129 @@
+ghost use Rattle.std.specs.Prelude.{◌≡◌, ◌+◌, ◌<◌, ◌≤◌, ◌∷◌, ◌++◌, [], length, All, unwrap_or, IfOk, OnOk};
+ghost use Rattle.std.specs.Fmt.{decimal};
+ghost use Rattle.pim_io.specs.Names.{label};
+ghost use Rattle.pim_aiger.specs.Files.{signal_labels};
+ghost use Rattle.pim_aiger.specs.SymbolTable.{all_labels};
+
+use crate::names::GivenName;
+use pim_io::NoMemory;
+use pim_net::{Draft, Names, OutRef};
+use std::alloc::Global;
+
+/// A letter and a number: what an input, an output or a signal is called that has no name.
+fn numbered(alloc: Global, letter: u8, k: u32) -> Result<Vec<u8>, NoMemory>
+    ensures text { IfOk result (λ text. text.items ≡ letter ∷ decimal k) }
+    ensures short { IfOk result (λ text. length text.items ≤ 4096) }
+{
+    let digits = format!(in alloc; "{k}")?;
+    let mut text = Vec::new(alloc);
+    text.push(letter)?;
+    text.extend_from_slice(digits.as_bytes())?;
+    Ok(text)
+}
+
+/// Adds input k of a draft, by its name or else as `i` and k.
+fn add_input(
+    alloc: Global,
+    draft: &mut Draft,
+    variable: u32,
+    k: u32,
+    name: &Option<GivenName>,
+) -> Result<(), NoMemory>
+    requires below { variable < 1048576 }
+    requires room { length draft.old.inputs < 1048576 }
+    ensures { OnOk result (draft.new ≡ record draft.old {
+      inputs = draft.old.inputs ++ variable ∷ [];
+      input_labels = draft.old.input_labels ++ label (unwrap_or name.now (105 ∷ decimal k)) ∷ [];
+    }) }
+{
+    match name {
+        Some(name) => draft.add_input(variable, name.bytes()),
+        None => {
+            let name = numbered(alloc, b'i', k)?;
+            draft.add_input(variable, &name)
+        }
+    }
+}
+
+/// Adds output k of a draft, by its name or else as `o` and k.
+fn add_output(
+    alloc: Global,
+    draft: &mut Draft,
+    output: OutRef,
+    k: u32,
+    name: &Option<GivenName>,
+) -> Result<(), NoMemory>
+    requires below { output.sig < 1048576 }
+    requires room { length draft.old.outputs < 1048576 }
+    ensures { OnOk result (draft.new ≡ record draft.old {
+      outputs = draft.old.outputs ++ output ∷ [];
+      output_labels = draft.old.output_labels ++ label (unwrap_or name.now (111 ∷ decimal k)) ∷ [];
+    }) }
+{
+    match name {
+        Some(name) => draft.add_output(output, name.bytes()),
+        None => {
+            let name = numbered(alloc, b'o', k)?;
+            draft.add_output(output, &name)
+        }
+    }
+}
+
+/// Adds the inputs of a draft that has none, each by its name or else as `i` and its position.
+pub(crate) fn add_inputs(
+    alloc: Global,
+    draft: &mut Draft,
+    inputs: &[u32],
+    names: &[Option<GivenName>],
+) -> Result<(), NoMemory>
+    requires same { length names.now ≡ length inputs.now }
+    requires below { All (λ v. v < 1048576) inputs.now }
+    requires few { length inputs.now ≤ 1048576 }
+    requires none { draft.old.inputs ≡ [] }
+    requires unlabelled { draft.old.input_labels ≡ [] }
+    ensures { OnOk result (draft.new ≡ record draft.old {
+      inputs = inputs.now;
+      input_labels = all_labels 105 0 names.now;
+    }) }
+{
+    for k in 0..inputs.len() {
+        add_input(alloc, draft, inputs[k], k as u32, &names[k])?;
+    }
+    Ok(())
+}
+
+/// Adds the outputs of a draft that has none, each by its name or else as `o` and its position.
+pub(crate) fn add_outputs(
+    alloc: Global,
+    draft: &mut Draft,
+    outputs: &[OutRef],
+    names: &[Option<GivenName>],
+) -> Result<(), NoMemory>
+    requires same { length names.now ≡ length outputs.now }
+    requires below { All (λ o. o.sig < 1048576) outputs.now }
+    requires few { length outputs.now ≤ 1048576 }
+    requires none { draft.old.outputs ≡ [] }
+    requires unlabelled { draft.old.output_labels ≡ [] }
+    ensures { OnOk result (draft.new ≡ record draft.old {
+      outputs = outputs.now;
+      output_labels = all_labels 111 0 names.now;
+    }) }
+{
+    for k in 0..outputs.len() {
+        add_output(alloc, draft, outputs[k], k as u32, &names[k])?;
+    }
+    Ok(())
+}
+
+/// The labels of the signals 0 to `most`, which are called by the letter `v` and their variables.
+pub(crate) fn signal_labels(alloc: Global, most: u32) -> Result<Names, NoMemory>
+    requires { most < 1048576 }
+    ensures { IfOk result (λ names. names ≡ signal_labels most) }
+{
+    let mut names = Names::new(alloc);
+    for v in 0..most + 1 {
+        let name = numbered(alloc, b'v', v)?;
+        names.push(&name)?;
+    }
+    Ok(names)
+}

@@ -1,0 +1,72 @@
+ghost use Rattle.std.specs.Prelude.{◌≡◌, ◌==◌, ◌+◌, ◌<◌, ◌≤◌, length, option_map, Some, IfSome, OnOk, IfOk};
+ghost use Rattle.std.specs.List.{position};
+ghost use Rattle.pim_io.specs.Words.{number_of};
+ghost use Rattle.pim_aiger.specs.SymbolTable.{count_of, symbol_of, with_space, with_position, symbol_view};
+
+use crate::header::Header;
+use pim_io::number;
+
+/// Whether a symbol names an input or an output.
+#[derive(Clone, Copy, Debug, PartialEq, Eq)]
+pub(crate) enum Port {
+    Input,
+    Output,
+}
+
+impl Port {
+    /// How many ports of this kind a header tells.
+    pub(crate) fn count(self, header: &Header) -> u32
+        ensures { result ≡ count_of header.now self }
+    {
+        match self {
+            Port::Input => header.inputs,
+            Port::Output => header.outputs,
+        }
+    }
+}
+
+/// A name for the input or the output at a position.
+#[derive(Clone, Copy, Debug)]
+pub(crate) struct Symbol<'a> {
+    pub(crate) port: Port,
+    pub(crate) position: u32,
+    pub(crate) name: &'a [u8],
+}
+
+/// The symbol that a line spells: `i` or `o` and a position, up to the first space, and after it a name that is not empty.
+pub(crate) fn symbol_of(text: &[u8]) -> Option<Symbol<'_>>
+    ensures spelled { option_map symbol_view result ≡ symbol_of text.now }
+    ensures named { IfSome result (λ symbol. 0 < length symbol.name.now) }
+{
+    match text {
+        [b'i', text @ ..] => positioned(Port::Input, text),
+        [b'o', text @ ..] => positioned(Port::Output, text),
+        _ => None,
+    }
+}
+
+/// The symbol of a port whose position and name are told by a text.
+fn positioned(port: Port, text: &[u8]) -> Option<Symbol<'_>>
+    ensures spelled { option_map symbol_view result ≡ with_space port text.now (position (λ b. b == 32) text.now) }
+    ensures named { IfSome result (λ symbol. 0 < length symbol.name.now) }
+{
+    let space = first_space(text)?;
+    let position = number(&text[..space])?;
+    let name = &text[space + 1..];
+    if name.is_empty() {
+        return None;
+    }
+    Some(Symbol {
+        port,
+        position,
+        name,
+    })
+}
+
+/// Where the first space of a text stands.
+fn first_space(text: &[u8]) -> Option<usize>
+    ensures place { result ≡ position (λ b. b == 32) text.now }
+    ensures within { IfSome result (λ k. k < length text.now) }
+{
+    text.iter().position(|b| *b == b' ')
+}
