@@ -1,0 +1,6 @@
+pub mod Chains
+pub mod Faults
+pub mod Flat
+pub mod Graph
+pub mod Literals
+pub mod Values

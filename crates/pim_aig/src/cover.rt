@@ -1,0 +1,74 @@
+ghost use Rattle.std.specs.Prelude.{◌≡◌, ◌<◌, ◌≤◌, [], List, All, length, IfErr, IfOk};
+ghost use Rattle.pim_aig.specs.Chains.{chain, cover_from, literals_of, row_literals, rows_from};
+ghost use Rattle.pim_aig.specs.Faults.{Says};
+ghost use Rattle.pim_aig.specs.Graph.{Grows, IsOfFirst, nodes};
+
+use crate::chain::{chain, link};
+use crate::{Aig, FlatFault, Lit};
+use pim_net::{Bit3, Cover};
+use std::alloc::Global;
+
+/// The chain of the literals that a row asks: a column's literal where the cell is one, its complement where it is zero.
+fn row_chain(aig: &mut Aig, table: &[Lit], ins: &[u32], row: &[Bit3]) -> Result<Lit, FlatFault>
+    requires there { All (IsOfFirst (nodes aig.old)) table.now }
+    requires columns { All (λ s. s < length table.now) ins.now }
+    requires whole { length row.now ≡ length ins.now }
+    ensures made { IfOk result (λ l. record { ands = aig.new.ands; lit = l }
+        ≡ chain aig.old.inputs aig.old.ands (row_literals (literals_of table.now) ins.now row.now)) }
+    ensures there { IfOk result (IsOfFirst (nodes aig.new)) }
+    ensures grown { Grows aig.old aig.new }
+    ensures fault { IfErr result (λ fault. Says fault
+        (length (chain aig.old.inputs aig.old.ands (row_literals (literals_of table.now) ins.now row.now)).ands)) }
+{
+    let mut last = None;
+    for (k, cell) in row.iter().enumerate() {
+        let literal = table[ins[k] as usize];
+        match cell {
+            Bit3::Any => {}
+            Bit3::One => last = Some(link(aig, last, literal)?),
+            Bit3::Zero => last = Some(link(aig, last, literal.complement())?),
+        }
+    }
+    Ok(last.unwrap_or(Lit::TRUE))
+}
+
+/// The complements of the rows' chains, one after another.
+fn rows(alloc: Global, aig: &mut Aig, table: &[Lit], cover: &Cover) -> Result<Vec<Lit>, FlatFault>
+    requires there { All (IsOfFirst (nodes aig.old)) table.now }
+    requires columns { All (λ s. s < length table.now) cover.now.ins }
+    ensures made { IfOk result (λ ls. record { ands = aig.new.ands; lits = ls.items }
+        ≡ rows_from aig.old.inputs (literals_of table.now) cover.now.ins aig.old.ands [] cover.now.rows) }
+    ensures there { IfOk result (λ ls. All (IsOfFirst (nodes aig.new)) ls.items) }
+    ensures grown { Grows aig.old aig.new }
+    ensures fault { IfErr result (λ fault. Says fault
+        (length (rows_from aig.old.inputs (literals_of table.now) cover.now.ins aig.old.ands [] cover.now.rows).ands)) }
+{
+    let mut literals = Vec::new(alloc);
+    for k in 0..cover.row_count() {
+        let chain = row_chain(aig, table, cover.ins(), cover.row(k))?;
+        literals.push(chain.complement())?;
+    }
+    Ok(literals)
+}
+
+/// The literal of a cover: the complement of the chain of its rows' complements, and with phase 0 complemented once more.
+pub(crate) fn cover_literal(
+    alloc: Global,
+    aig: &mut Aig,
+    table: &[Lit],
+    cover: &Cover,
+) -> Result<Lit, FlatFault>
+    requires there { All (IsOfFirst (nodes aig.old)) table.now }
+    requires columns { All (λ s. s < length table.now) cover.now.ins }
+    ensures made { IfOk result (λ l. record { ands = aig.new.ands; lit = l }
+        ≡ cover_from aig.old.inputs (literals_of table.now) aig.old.ands cover.now) }
+    ensures there { IfOk result (IsOfFirst (nodes aig.new)) }
+    ensures grown { Grows aig.old aig.new }
+    ensures fault { IfErr result (λ fault. Says fault
+        (length (cover_from aig.old.inputs (literals_of table.now) aig.old.ands cover.now).ands)) }
+{
+    let rows = rows(alloc, aig, table, cover)?;
+    let off = chain(aig, &rows)?;
+    let on = off.complement();
+    Ok(if cover.phase() { on } else { on.complement() })
+}
