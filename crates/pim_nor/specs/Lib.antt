@@ -1,0 +1,5 @@
+pub mod Lowered
+pub mod Named
+pub mod Network
+pub mod Reached
+pub mod Values

@@ -1,0 +1,14 @@
+//! NOR networks: `lower` turns an and-inverter graph into gates of one to four operands, each a NOR of what it reads.
+//! A gate stands for a node or for its complement, exists once, and only where an output reaches it.
+#![tactic(auto)]
+
+mod kept;
+mod lowering;
+mod network;
+mod reach;
+mod slots;
+#[cfg(test)]
+mod tests;
+
+pub use lowering::{Width, lower};
+pub use network::{Gate, NorNet, Pin};

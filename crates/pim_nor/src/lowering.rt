@@ -1,0 +1,30 @@
+ghost use Rattle.std.specs.Prelude.{◌≡◌, Bool, List, length, map, IfOk};
+ghost use Rattle.pim_aig.specs.Values.{aval};
+ghost use Rattle.pim_nor.specs.Lowered.{nors};
+ghost use Rattle.pim_nor.specs.Values.{out_values};
+
+use crate::NorNet;
+use crate::kept::Kept;
+use crate::reach::reached;
+use pim_aig::Aig;
+use pim_io::NoMemory;
+use std::alloc::Global;
+
+/// How many operands a gate may have.
+#[derive(Clone, Copy, Debug, PartialEq, Eq)]
+pub enum Width {
+    Two,
+}
+
+/// The network of the gates that the outputs reach, with gates of at most so many operands. Linear in the graph.
+pub fn lower(alloc: Global, aig: &Aig, _width: Width) -> Result<NorNet, NoMemory>
+    ensures network { IfOk result (λ network. network ≡ nors aig.now) }
+    ensures values { IfOk result (λ network. (bits : List Bool) → length bits ≡ aig.now.inputs →
+        out_values network bits ≡ map (aval aig.now bits) aig.now.outputs) }
+{
+    let inputs = aig.inputs();
+    let kept = Kept::of(alloc, reached(alloc, aig)?)?;
+    let gates = kept.gates(alloc, aig)?;
+    let outs = kept.outs(alloc, aig)?;
+    Ok(NorNet::new(inputs, gates, outs))
+}
