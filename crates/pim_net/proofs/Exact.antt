@@ -1,18 +1,15 @@
 -- A well-formed draft has no fault.
-use Rattle.std.proofs.Common.{◌≡◌, ◌≢◌, ℕ, zero, suc, ◌+◌, ◌<◌, ◌≤◌, ◌++◌, ◌⊎◌, Bool, true, false, cond, List, [], ◌∷◌, Option, Some, None, All, length, get_or, map, refl, ap, sym, ◌∙◌, subst, ⊎_elim, arith}
+use Rattle.std.proofs.Common.{◌≡◌, ◌≢◌, ℕ, suc, ◌++◌, Bool, true, false, cond, List, [], ◌∷◌, Option, Some, None, All, length, get_or, refl, ap, sym, ◌∙◌, subst, ⊎_elim, arith}
 use Rattle.std.specs.Prelude.{is_some, is_none, option_map, find, AllPairs, Contains, IsSome}
 use Rattle.std.specs.Option.{option_or}
-use Rattle.std.proofs.lemmas.List.{append_assoc, length-append, get_or_append_left, get_or_at, get_or_default, get_or-map, length-map}
+use Rattle.std.proofs.lemmas.List.{append_assoc, length-append, get_or_append_left, get_or_at, get_or_default}
 use Rattle.std.proofs.lemmas.List.Elements.{Contains-append_cases}
 use Rattle.pim_net.specs.Drivers.{place, sigs, driven, read, driver, driver_by, is_nobody}
 use Rattle.pim_net.specs.Depths.{depth}
-use Rattle.pim_net.specs.Faults.{first_repeat, walk, cycle_by, fault_of, twice, undriven, cycle}
+use Rattle.pim_net.specs.Faults.{first_repeat, walk, fault_of, undriven, cycle}
 use Rattle.pim_net.specs.WellFormed.{IsWellFormed}
 use Rattle.pim_net.specs.declared.parts.Equation.{Equation}
 use Rattle.pim_net.specs.declared.parts.OutRef.{OutRef}
-use Rattle.pim_net.specs.declared.driver.Driver.{Driver}
-use Rattle.pim_net.specs.declared.driver.Driver.TheVariants.{Nobody, Input, Cover}
-use Rattle.pim_net.specs.declared.fault.NetFault.{NetFault}
 use Rattle.pim_net.specs.declared.fault.NetFault.TheVariants.{Twice, Undriven, Cycle}
 use Rattle.pim_net.proofs.Repeats.{place_is, place_has}
 

@@ -1,12 +1,12 @@
 -- Where a signal has a depth, it has a value.
-use Rattle.std.proofs.Common.{◌≡◌, ◌≢◌, ℕ, zero, suc, ◌+◌, ◌<◌, ◌≤◌, ◌++◌, ◌⊎◌, max, Bool, true, false, List, [], ◌∷◌, Option, Some, None, All, length, get_or, map, refl, ap, sym, ◌∙◌, subst, inl, inr, ⊎_elim, arith}
+use Rattle.std.proofs.Common.{◌≡◌, ◌≢◌, ℕ, zero, suc, ◌+◌, ◌<◌, ◌≤◌, ◌++◌, Bool, true, false, List, [], ◌∷◌, Option, Some, None, length, get_or, map, refl, ap, sym, ◌∙◌, ⊎_elim, arith}
 use Rattle.std.specs.Prelude.{is_some, option_map, slice_get, Contains, AllPairs}
 use Rattle.std.proofs.lemmas.List.{get_or-map, length-map, length-append, get_or-append-add, get_or_append_left, get_or_default}
 use Rattle.std.proofs.lemmas.List.Elements.{Contains-append_cases}
 use Rattle.std.proofs.lemmas.Option.{slice_get-get_or}
 use Rattle.std.proofs.lemmas.Bool.{cases_lt}
 use Rattle.pim_net.specs.Drivers.{place, sigs, driven, driver, driver_by}
-use Rattle.pim_net.specs.Depths.{deepest, depth, depth_below, driver_depth, equation_depth}
+use Rattle.pim_net.specs.Depths.{deepest, depth, depth_below, driver_depth}
 use Rattle.pim_net.specs.Values.{val, value, all_values, driver_value, equation_value, cover_value}
 use Rattle.pim_net.specs.Netlist.{NetView}
 use Rattle.pim_net.specs.WellFormed.{IsNet, IsWellFormed}
