@@ -1,17 +1,15 @@
 -- Small files, with their netlists and faults by computation.
-use Rattle.std.specs.Prelude.{◌≡◌, ℕ, true, false, List, [], ◌∷◌, ◌++◌, Result, Ok, Err, refl, codes}
+use Rattle.std.specs.Prelude.{◌≡◌, ℕ, List, [], ◌∷◌, ◌++◌, Ok, Err, refl, codes}
 use Rattle.pim_net.specs.Netlist.{DraftView}
-use Rattle.pim_net.specs.declared.fault.NetFault.TheVariants.{Twice, Undriven, Cycle}
-use Rattle.pim_net.specs.declared.kind.Kind.TheVariants.{Signals, Outputs}
-use Rattle.pim_aiger.specs.declared.fault.AigerFault.{AigerFault}
+use Rattle.pim_net.specs.declared.fault.NetFault.TheVariants.{Undriven}
+use Rattle.pim_net.specs.declared.kind.Kind.TheVariants.{Signals}
 use Rattle.pim_aiger.specs.declared.fault.AigerFault.TheVariants as faults
-use Rattle.pim_aiger.specs.declared.header.Form.TheVariants.{Text, Binary}
 use Rattle.pim_aiger.specs.Steps.{many}
 use Rattle.pim_aiger.specs.HeaderLine.{header_at}
 use Rattle.pim_aiger.specs.TextLines.{line_at}
 use Rattle.pim_aiger.specs.Literals.{input_at, output_at, gate_at, constant, and_gate, reference}
 use Rattle.pim_aiger.specs.Deltas.{delta_at, binary_gate_at}
-use Rattle.pim_aiger.specs.SymbolTable.{names_at, symbol_of}
+use Rattle.pim_aiger.specs.SymbolTable.{names_at}
 use Rattle.pim_aiger.specs.Files.{net_of, text_net_of, binary_net_of, text_whole, binary_whole, text_parts, binary_parts, closing, judged_net}
 use Rattle.std.specs.Fmt.{digits}
 use Rattle.pim_io.specs.Words.{number_of}

@@ -1,5 +1,5 @@
 -- The netlist of an AIGER file: the bytes are a header line, then as many parts as the header says, then symbols. The
--- first part that breaks a rule gives the fault.
+-- first part that breaks a rule gives the fault (AIGER 20071012, "ASCII format" and "Binary format").
 use Rattle.std.specs.Prelude.{◌≡◌, ℕ, ◌+◌, List, [], ◌∷◌, drop, map, Option, Some, None, Result, Ok, Err, if◌then◌else◌}
 use Rattle.std.specs.List.{range_with_len}
 use Rattle.std.specs.Fmt.{decimal}

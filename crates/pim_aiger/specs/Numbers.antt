@@ -1,4 +1,4 @@
--- The numbers on the lines of an AIGER file.
+-- The numbers on the lines of an AIGER file, in decimal and separated by blanks (AIGER 20071012, "ASCII format").
 use Rattle.std.specs.Prelude.{ℕ, zero, suc, ◌==◌, ◌&&◌, List, [], ◌∷◌, Option, Some, None, option_and_then, Bool, true, false, if◌then◌else◌}
 use Rattle.pim_io.specs.Words.{number_of}
 use Rattle.pim_aiger.specs.declared.header.Header.{Header}

@@ -1,4 +1,5 @@
--- The lines of text in an AIGER file.
+-- The lines of text in an AIGER file: all of the ASCII form; the header, the outputs and the symbols of the binary form
+-- (AIGER 20071012, "ASCII format" and "Binary format"). Each line that a file has to have ends in a newline.
 use Rattle.std.specs.Prelude.{ℕ, ◌+◌, ◌-◌, ◌==◌, List, [], ◌∷◌, length, take, slice_index, Result, Ok, Err, if◌then◌else◌}
 use Rattle.pim_io.specs.Lines.{LineView, lines}
 use Rattle.pim_aiger.specs.declared.fault.AigerFault.{AigerFault}

@@ -1,5 +1,5 @@
-ghost use Rattle.std.specs.Prelude.{◌≡◌, ◌+◌, ◌<◌, ◌≤◌, IsTrue, IfOk};
-ghost use Rattle.pim_aiger.specs.HeaderLine.{is_greatest, judged, IsWithin};
+ghost use Rattle.std.specs.Prelude.{IfOk};
+ghost use Rattle.pim_aiger.specs.HeaderLine.{judged, IsWithin};
 ghost use Rattle.pim_aiger.specs.Steps.{Gives};
 
 use crate::fault::AigerFault;

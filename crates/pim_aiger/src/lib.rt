@@ -6,6 +6,7 @@ mod fault;
 mod file;
 mod header;
 mod labels;
+mod line;
 mod literal;
 mod names;
 mod parts;

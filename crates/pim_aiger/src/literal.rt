@@ -1,4 +1,4 @@
-ghost use Rattle.std.specs.Prelude.{◌≡◌, ◌+◌, ◌/◌, ◌%◌, ◌<◌, ◌≤◌, IfOk};
+ghost use Rattle.std.specs.Prelude.{◌≡◌, ◌/◌, ◌<◌, IfOk};
 ghost use Rattle.pim_aiger.specs.Literals.{is_literal, is_plain, reference, asked, and_gate};
 
 use pim_io::NoMemory;

@@ -1,15 +1,12 @@
-ghost use Rattle.std.specs.Prelude.{◌≡◌, ◌+◌, ◌<◌, ◌≤◌, length, replicate, Some, None, OnOk, IfOk};
-ghost use Rattle.pim_aiger.specs.Cursor.{Cursor};
+ghost use Rattle.std.specs.Prelude.{◌≡◌, ◌+◌, ◌<◌, ◌≤◌, length, replicate, None, OnOk, IfOk};
 ghost use Rattle.pim_aiger.specs.Steps.{Gives};
-ghost use Rattle.pim_aiger.specs.TextLines.{text_of};
-ghost use Rattle.pim_io.specs.Lines.{line_of};
-ghost use Rattle.pim_aiger.specs.SymbolTable.{is_comment, symbol_of, allowed, with_symbol, no_names, names_at, IsSized};
+ghost use Rattle.pim_aiger.specs.SymbolTable.{symbol_of, allowed, with_symbol, no_names, names_at, IsSized};
 
 use crate::fault::AigerFault;
 use crate::header::Header;
-use crate::reader::without_return;
+use crate::line::{is_comment, text_of};
 use crate::symbol::{Port, symbol_of};
-use pim_io::{Line, NoMemory, Scan};
+use pim_io::{NoMemory, Scan};
 use pim_net::Kind;
 use std::alloc::Global;
 use std::marker::Model;
@@ -115,27 +112,6 @@ fn no_names<'a>(alloc: Global, count: u32) -> Result<Vec<Option<GivenName<'a>>>,
         names.push(None)?;
     }
     Ok(names)
-}
-
-/// The text of a line: a carriage return right before the newline is no part of it.
-fn text_of<'a>(line: &Line<'a>) -> &'a [u8]
-    ensures { result.now ≡ text_of (line_of line.now) }
-{
-    if line.ended {
-        without_return(line.text)
-    } else {
-        line.text
-    }
-}
-
-/// Whether a line ends the table of symbols.
-fn is_comment(text: &[u8]) -> bool
-    ensures { result ≡ is_comment text.now }
-{
-    match text {
-        [first, ..] => *first == b'c',
-        [] => false,
-    }
 }
 
 /// The names that the last lines of a file give: its symbols, up to a line that begins with `c`. An empty line is passed

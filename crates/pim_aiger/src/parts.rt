@@ -1,6 +1,5 @@
-ghost use Rattle.std.specs.Prelude.{◌≡◌, ◌+◌, ◌<◌, ◌≤◌, ◌∷◌, [], length, All, IfOk};
+ghost use Rattle.std.specs.Prelude.{◌≡◌, ◌<◌, ◌∷◌, [], length, All, IfOk};
 ghost use Rattle.std.specs.List.{range_with_len};
-ghost use Rattle.pim_aiger.specs.Cursor.{Cursor};
 ghost use Rattle.pim_aiger.specs.Steps.{Gives, many, with_front};
 ghost use Rattle.pim_aiger.specs.HeaderLine.{IsWithin};
 ghost use Rattle.pim_aiger.specs.Literals.{input_at, output_at, gate_at, constant};

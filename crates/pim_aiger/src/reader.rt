@@ -1,19 +1,15 @@
-ghost use Rattle.std.specs.Prelude.{◌≡◌, ◌+◌, ◌<◌, ◌≤◌, ◌∷◌, [], length, drop, IfOk};
+ghost use Rattle.std.specs.Prelude.{◌≡◌, ◌+◌, ◌≤◌, length, drop};
 ghost use Rattle.pim_aiger.specs.Cursor.{Cursor, end_of, further};
 ghost use Rattle.pim_aiger.specs.Steps.{Gives};
-ghost use Rattle.pim_aiger.specs.TextLines.{line_at, without_return};
-ghost use Rattle.pim_aiger.specs.HeaderLine.{header_at, IsWithin};
-ghost use Rattle.pim_aiger.specs.Literals.{input_at, output_at, gate_at};
-ghost use Rattle.pim_aiger.specs.Deltas.{delta_at, binary_gate_at};
+ghost use Rattle.pim_aiger.specs.TextLines.{line_at};
 
 use crate::fault::AigerFault;
-use crate::header::{Form, Header};
-use crate::literal::{and_gate, is_literal, is_plain, reference};
-use crate::words::{header_numbers, one_number, three_numbers};
-use pim_io::{Code, Scan, get_code};
-use pim_net::{Equation, OutRef};
-use std::alloc::Global;
+use crate::line::without_return;
+use pim_io::Scan;
 use std::marker::Model;
+
+mod codes;
+mod text;
 
 /// Where a reading stands: the bytes that are left, and the place of the first of them. It hands out slices of the bytes.
 #[derive(Debug, Drop)]
@@ -91,124 +87,4 @@ impl<'a> Reader<'a> {
             _ => Err(self.truncated()),
         }
     }
-
-    /// The rest of the header line behind its tag.
-    #[tactic(auto, unfolding(crate::specs::HeaderLine::header_at))]
-    pub(crate) fn header(&mut self, form: Form) -> Result<Header, AigerFault>
-        ensures exact { Gives (λ header. (header, self.new)) result (header_at form self.old) }
-        ensures within { IfOk result IsWithin }
-    {
-        let text = self.line()?;
-        let Some(header) = header_numbers(text) else {
-            return Err(AigerFault::Header);
-        };
-        header.judged(form)
-    }
-
-    /// The variable of an input line.
-    #[tactic(auto, unfolding(crate::specs::Literals::input_at))]
-    pub(crate) fn input(&mut self, most: u32) -> Result<u32, AigerFault>
-        requires { most < 1048576 }
-        ensures exact { Gives (λ variable. (variable, self.new)) result (input_at most self.old) }
-        ensures below { IfOk result (λ variable. variable < 1048576) }
-    {
-        let place = self.place;
-        let text = self.line()?;
-        let Some(literal) = one_number(text) else {
-            return Err(AigerFault::Number(place));
-        };
-        if !is_plain(most, literal) {
-            return Err(AigerFault::Literal(place));
-        }
-        Ok(literal / 2)
-    }
-
-    /// The signal of an output line.
-    #[tactic(auto, unfolding(crate::specs::Literals::output_at))]
-    pub(crate) fn output(&mut self, most: u32) -> Result<OutRef, AigerFault>
-        requires { most < 1048576 }
-        ensures exact { Gives (λ output. (output, self.new)) result (output_at most self.old) }
-        ensures below { IfOk result (λ output. output.sig < 1048576) }
-    {
-        let place = self.place;
-        let text = self.line()?;
-        let Some(literal) = one_number(text) else {
-            return Err(AigerFault::Number(place));
-        };
-        if !is_literal(most, literal) {
-            return Err(AigerFault::Literal(place));
-        }
-        Ok(reference(literal))
-    }
-
-    /// The gate of a gate line.
-    #[tactic(auto, unfolding(crate::specs::Literals::gate_at))]
-    pub(crate) fn gate(&mut self, alloc: Global, most: u32) -> Result<Equation, AigerFault>
-        requires { most < 1048576 }
-        ensures exact { Gives (λ gate. (gate, self.new)) result (gate_at most self.old) }
-        ensures below { IfOk result (λ gate. gate.sig < 1048576) }
-    {
-        let place = self.place;
-        let text = self.line()?;
-        let Some((gate, left, right)) = three_numbers(text) else {
-            return Err(AigerFault::Number(place));
-        };
-        if !(is_plain(most, gate) && is_literal(most, left) && is_literal(most, right)) {
-            return Err(AigerFault::Literal(place));
-        }
-        Ok(and_gate(alloc, gate / 2, left, right)?)
-    }
-
-    /// How far the next literal of a binary gate is below the one before it.
-    #[tactic(auto, unfolding(crate::specs::Deltas::delta_at))]
-    fn delta(&mut self) -> Result<u32, AigerFault>
-        ensures { Gives (λ delta. (delta, self.new)) result (delta_at self.old) }
-    {
-        match get_code(self.rest, 0) {
-            Code::Got { value, next } => {
-                self.skip(next);
-                Ok(value)
-            }
-            Code::Long => Err(AigerFault::Delta(self.place)),
-            Code::Short => Err(self.truncated()),
-        }
-    }
-
-    /// The gate of a binary file that stands for this variable.
-    #[tactic(auto, unfolding(crate::specs::Deltas::binary_gate_at))]
-    pub(crate) fn binary_gate(
-        &mut self,
-        alloc: Global,
-        inputs: u32,
-        k: u32,
-    ) -> Result<Equation, AigerFault>
-        requires { inputs + k + 1 < 1048576 }
-        ensures exact { Gives (λ gate. (gate, self.new)) result (binary_gate_at inputs k self.old) }
-        ensures below { IfOk result (λ gate. gate.sig < 1048576) }
-    {
-        let variable = inputs + k + 1;
-        let place = self.place;
-        let delta = self.delta()?;
-        if delta == 0 || delta > 2 * variable {
-            return Err(AigerFault::Delta(place));
-        }
-        let left = 2 * variable - delta;
-        let place = self.place;
-        let delta = self.delta()?;
-        if delta > left {
-            return Err(AigerFault::Delta(place));
-        }
-        Ok(and_gate(alloc, variable, left, left - delta)?)
-    }
-}
-
-/// A text without the carriage return that it ends in.
-pub(crate) fn without_return(text: &[u8]) -> &[u8]
-    ensures { result.now ≡ without_return text.now }
-{
-    let length = text.len();
-    if length > 0 && text[length - 1] == b'\r' {
-        return &text[..length - 1];
-    }
-    text
 }

@@ -1,7 +1,6 @@
-ghost use Rattle.std.specs.Prelude.{◌≡◌, ◌==◌, ◌+◌, ◌<◌, ◌≤◌, length, option_map, Some, IfSome, OnOk, IfOk};
+ghost use Rattle.std.specs.Prelude.{◌≡◌, ◌==◌, ◌<◌, length, option_map, IfSome};
 ghost use Rattle.std.specs.List.{position};
-ghost use Rattle.pim_io.specs.Words.{number_of};
-ghost use Rattle.pim_aiger.specs.SymbolTable.{count_of, symbol_of, with_space, with_position, symbol_view};
+ghost use Rattle.pim_aiger.specs.SymbolTable.{count_of, symbol_of, with_space, symbol_view};
 
 use crate::header::Header;
 use pim_io::number;

@@ -1,5 +1,5 @@
 ghost use Rattle.std.specs.Prelude.{◌≡◌};
-ghost use Rattle.pim_io.specs.Words.{number_of, words};
+ghost use Rattle.pim_io.specs.Words.{words};
 ghost use Rattle.pim_aiger.specs.Numbers.{one_number, three_numbers, are_zeros, header_numbers};
 
 use crate::header::Header;
