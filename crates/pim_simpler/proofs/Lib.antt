@@ -1,0 +1,5 @@
+pub mod Frame
+pub mod Ready
+pub mod Runs
+pub mod Sound
+pub mod Whole

@@ -1,0 +1,42 @@
+use Rattle.std.proofs.Common.{◌≡◌, ◌∙◌, ap, sym, subst, Some, None}
+use Rattle.pim_isa.specs.Primed.{IsPrimed}
+use Rattle.pim_isa.specs.Programs.{ProgramView}
+use Rattle.pim_isa.specs.Validity.{fault_of}
+use Rattle.pim_simpler.specs.Means.{Means}
+use Rattle.pim_simpler.specs.Wide.{wide, labels_of}
+use Rattle.pim_simpler.proofs.Sound.{wide-sound, few-ports, few-instrs}
+use Rattle.pim_simpler.proofs.Ready.{wide-primed}
+use Rattle.pim_simpler.proofs.Whole.{wide-means, labels-kept}
+use Rattle.pim_simpler.proofs.wide.schedule.Goals as goal
+
+pub new-requires-clause-few_ports : goal.new-requires-clause-few_ports
+new-requires-clause-few_ports c =
+    rw c.in-Ok.ensures (few-ports c.args.net.now c.args.ports.now c.inputs.ensures.sound c.requires.inputs)
+
+pub new-requires-clause-few_instrs : goal.new-requires-clause-few_instrs
+new-requires-clause-few_instrs c = rw c.in-Ok.ensures (few-instrs c.args.net.now c.args.ports.now c.inputs.ensures.sound)
+
+pub unreachable-requires : goal.unreachable-requires
+unreachable-requires c =
+    let none : fault_of c.in-Ok.draft ≡ None =
+    ap fault_of c.in-Ok.ensures ∙ wide-sound c.args.net.now c.args.ports.now c.inputs.ensures.sound c.requires.inputs in
+    let some : fault_of c.in-Ok.draft ≡ Some c.in-Err-new.field-0 = c.in-Err-new.ensures.fault in
+    cc
+
+pub returns-in-Ok-new-clause-means : goal.returns-in-Ok-new-clause-means
+returns-in-Ok-new-clause-means c =
+    let is : c.in-Ok-new.program ≡ wide c.args.net.now c.args.ports.now = c.in-Ok-new.ensures.program ∙ c.in-Ok.ensures in
+    let F : ProgramView → Type 0 = λ p. Means p c.args.net.now in
+    subst F (sym is) (wide-means c.args.net.now c.args.ports.now c.inputs.ensures.sound c.requires.outputs)
+
+pub returns-in-Ok-new-clause-primed : goal.returns-in-Ok-new-clause-primed
+returns-in-Ok-new-clause-primed c =
+    let is : c.in-Ok-new.program ≡ wide c.args.net.now c.args.ports.now = c.in-Ok-new.ensures.program ∙ c.in-Ok.ensures in
+    let F : ProgramView → Type 0 = λ p. IsPrimed p.instrs in
+    subst F (sym is) (wide-primed c.args.net.now.inputs c.args.net.now.gates)
+
+pub returns-in-Ok-new-clause-labels : goal.returns-in-Ok-new-clause-labels
+returns-in-Ok-new-clause-labels c =
+    let is : c.in-Ok-new.program ≡ wide c.args.net.now c.args.ports.now = c.in-Ok-new.ensures.program ∙ c.in-Ok.ensures in
+    ap (λ (p : ProgramView). labels_of p.outputs) is
+    ∙ labels-kept c.args.net.now.inputs c.args.net.now.outs c.args.ports.now.outputs c.requires.outputs
