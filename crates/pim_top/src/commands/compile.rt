@@ -1,0 +1,44 @@
+//! `compile`: a netlist becomes the text of a program.
+ghost use Rattle.std.specs.Prelude.{◌≤◌, length};
+ghost use Rattle.pim_isa.specs.declared.draft.TheConstants.{MAX_CELLS};
+
+use crate::refusal::{Limit, Refusal};
+use pim_compile::{Level, Target, compile};
+use std::alloc::Global;
+
+/// The options of `compile`.
+#[derive(Clone, Copy)]
+pub struct Options {
+    pub target: Target,
+    pub level: Level,
+    /// How many cells the program may use: at most `MAX_CELLS`.
+    pub cells: u32,
+}
+
+/// The text of the program that a netlist compiles to.
+pub fn text(alloc: Global, bytes: &[u8], options: &Options) -> Result<Vec<u8>, Refusal>
+    requires bytes { length bytes.now ≤ 67108864 }
+    requires cells { options.now.cells ≤ MAX_CELLS }
+{
+    let net = match pim_aiger::read(alloc, bytes) {
+        Ok(net) => net,
+        Err(fault) => return Err(Refusal::of_aiger(fault)),
+    };
+    let program = match compile(alloc, &net, options.target, options.level, options.cells) {
+        Ok(program) => program,
+        Err(refusal) => return Err(of_compile(&refusal)),
+    };
+    match pim_file::print(alloc, &program) {
+        Ok(text) => Ok(text),
+        Err(_) => Err(Refusal::NoMemory),
+    }
+}
+
+/// The refusal that one of the compiler comes to.
+fn of_compile(refusal: &pim_compile::Refusal) -> Refusal {
+    match refusal {
+        pim_compile::Refusal::TooFewCells { needed } => Refusal::TooFewCells { needed: *needed },
+        pim_compile::Refusal::TooLarge => Refusal::TooLarge(Limit::Nodes),
+        pim_compile::Refusal::NoMemory => Refusal::NoMemory,
+    }
+}

@@ -1,0 +1,61 @@
+//! Why a command wrote nothing, with the evidence that its note names.
+use crate::Status;
+use pim_aiger::AigerFault;
+use pim_net::{Kind, NetFault};
+use pim_words::WordsFault;
+
+/// A limit of the tool that an input passed.
+#[derive(Clone, Copy, Debug, PartialEq, Eq)]
+pub enum Limit {
+    /// The bytes of the input.
+    Bytes,
+    /// The AND nodes of the flat graph.
+    Nodes,
+    /// A count or a length that the reader of the netlist judges.
+    Netlist(Kind),
+}
+
+/// Why a command ended without its text, with the place or number that the note names.
+#[derive(Debug, Drop)]
+pub enum Refusal {
+    Usage,
+    ReadFault,
+    WriteFault,
+    NoMemory,
+    TooFewCells { needed: u32 },
+    TooLarge(Limit),
+    /// A fault of an AIGER file that is neither a limit nor want of memory.
+    Aiger(AigerFault),
+}
+
+impl Refusal {
+    /// The status that the call ends with.
+    pub fn status(&self) -> Status {
+        match self {
+            Refusal::Usage => Status::Usage,
+            Refusal::ReadFault => Status::ReadFault,
+            Refusal::WriteFault => Status::WriteFault,
+            Refusal::NoMemory => Status::NoMemory,
+            Refusal::TooFewCells { .. } => Status::TooFewCells,
+            Refusal::TooLarge(_) => Status::TooLarge,
+            Refusal::Aiger(_) => Status::BadInput,
+        }
+    }
+
+    /// The refusal that words come to.
+    pub fn of_words(fault: &WordsFault) -> Refusal {
+        match fault {
+            WordsFault::Usage => Refusal::Usage,
+            WordsFault::NoMemory => Refusal::NoMemory,
+        }
+    }
+
+    /// The refusal that a fault of an AIGER file comes to: a limit and want of memory have statuses of their own.
+    pub fn of_aiger(fault: AigerFault) -> Refusal {
+        match fault {
+            AigerFault::TooLarge(kind) => Refusal::TooLarge(Limit::Netlist(kind)),
+            AigerFault::NoMemory | AigerFault::Net(NetFault::NoMemory, _) => Refusal::NoMemory,
+            fault => Refusal::Aiger(fault),
+        }
+    }
+}

@@ -1,0 +1,29 @@
+//! How a call ends.
+
+/// How a call of [`pim`](crate::pim) ended. Its number is the exit status of the program.
+#[derive(Clone, Copy, Debug, PartialEq, Eq)]
+pub enum Status {
+    /// The input was read to its end and everything was written.
+    Done,
+    /// The netlist has a fault.
+    BadInput,
+    /// There is no word, the command is unknown, or its other words are not words of it.
+    Usage,
+    /// A source failed, and counted it.
+    ReadFault,
+    /// The output failed, and counted it.
+    WriteFault,
+    /// Memory was wanting.
+    NoMemory,
+    /// The budget of cells is below what the command needs.
+    TooFewCells,
+    /// A limit of the tool is passed.
+    TooLarge,
+}
+
+impl Status {
+    /// The exit status: 0 for `Done`, and then 1 to 7 in the order of the variants.
+    pub fn code(self) -> u8 {
+        self as u8
+    }
+}
