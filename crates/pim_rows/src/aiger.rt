@@ -1,0 +1,186 @@
+//! Every fault of an ASCII AIGER file once, with its note, and the names that symbols give.
+use crate::case::{AND_PROGRAM, Case, check};
+use pim_top::Status;
+use std::test::Fail;
+
+const FIVE: &[&str] = &["compile", "--target", "magic", "--cells", "5"];
+
+#[test]
+fn symbols_name_the_ports(rt: HostRuntime) -> Result<(), Fail> {
+    check(
+        &rt,
+        rt.alloc(),
+        &Case {
+            words: FIVE,
+            input: b"aag 3 2 0 1 1\n2\n4\n6\n6 4 2\ni0 a\ni1 b\no0 f\nc\nfree text\n",
+            status: Status::Done,
+            output: b"pim 1\ntarget magic\ncells 5\ninput 0 a\ninput 1 b\noutput 4 f\ncycles 4\ninit 2 3 4\nnot 2 1\nnot 3 0\nnor 4 2 3\nend\n",
+            note: b"",
+        },
+    )
+}
+
+#[test]
+fn faults_are_named(rt: HostRuntime) -> Result<(), Fail> {
+    let faults: [(&'static [u8], Status, &'static [u8]); 20] = [
+        (
+            b"aag 1\n",
+            Status::BadInput,
+            b"pim: bad input: aiger header\n",
+        ),
+        (
+            b"aag 4294967296 0 0 0 0\n",
+            Status::BadInput,
+            b"pim: bad input: aiger header\n",
+        ),
+        (
+            b"aag 1 1 0 0 0 1\n2\n",
+            Status::BadInput,
+            b"pim: bad input: aiger header\n",
+        ),
+        (
+            b"aag 1 1 0 1 1\n2\n2\n4 2 2\n",
+            Status::BadInput,
+            b"pim: bad input: aiger header\n",
+        ),
+        (
+            b"aag 1 1 1 0 0\n2\n",
+            Status::BadInput,
+            b"pim: bad input: aiger latches\n",
+        ),
+        (
+            b"aag 1 1 0 1 0\n2 2\n2\n",
+            Status::BadInput,
+            b"pim: bad input: aiger number at byte 14\n",
+        ),
+        (
+            b"aag 1 1 0 1 0\n2\n9\n",
+            Status::BadInput,
+            b"pim: bad input: aiger literal at byte 16\n",
+        ),
+        (
+            b"aag 1 1 0 1 0\n3\n2\n",
+            Status::BadInput,
+            b"pim: bad input: aiger literal at byte 14\n",
+        ),
+        (
+            b"aag 2 1 0 0 1\n2\n0 2 2\n",
+            Status::BadInput,
+            b"pim: bad input: aiger literal at byte 16\n",
+        ),
+        (
+            b"aag 1 1 0 1 0\n2\n2",
+            Status::BadInput,
+            b"pim: bad input: aiger truncated at byte 17\n",
+        ),
+        (
+            b"aag 1 1 0 1 0",
+            Status::BadInput,
+            b"pim: bad input: aiger truncated at byte 13\n",
+        ),
+        (
+            b"aag 1 1 0 1 0\n2\n2\nx0 a\n",
+            Status::BadInput,
+            b"pim: bad input: aiger symbol at byte 18\n",
+        ),
+        (
+            b"aag 1 1 0 1 0\n2\n2\ni1 a\n",
+            Status::BadInput,
+            b"pim: bad input: aiger symbol at byte 18\n",
+        ),
+        (
+            b"aag 1 1 0 1 0\n2\n2\ni0\n",
+            Status::BadInput,
+            b"pim: bad input: aiger symbol at byte 18\n",
+        ),
+        (
+            b"aag 2 2 0 1 0\n2\n2\n2\n",
+            Status::BadInput,
+            b"pim: bad input: driven twice v1\n",
+        ),
+        (
+            b"aag 2 1 0 1 0\n2\n4\n",
+            Status::BadInput,
+            b"pim: bad input: undriven v2\n",
+        ),
+        (
+            b"aag 1 0 0 1 1\n2\n2 2 2\n",
+            Status::BadInput,
+            b"pim: bad input: cycle v1\n",
+        ),
+        (
+            b"aag 2 0 0 1 2\n2\n2 4 4\n4 2 2\n",
+            Status::BadInput,
+            b"pim: bad input: cycle v1 v2\n",
+        ),
+        (
+            b"aag 4294967295 0 0 0 0\n",
+            Status::TooLarge,
+            b"pim: too large: signals\n",
+        ),
+        (
+            b"aag 1048575 0 0 1048577 0\n",
+            Status::TooLarge,
+            b"pim: too large: outputs\n",
+        ),
+    ];
+    for (input, status, note) in faults {
+        check(
+            &rt,
+            rt.alloc(),
+            &Case {
+                words: FIVE,
+                input,
+                status,
+                output: b"",
+                note,
+            },
+        )?;
+    }
+    Ok(())
+}
+
+/// The AND in the binary form: its 18 bytes, every cut of them, and a gate whose difference is zero.
+#[test]
+fn the_binary_form(rt: HostRuntime) -> Result<(), Fail> {
+    check(
+        &rt,
+        rt.alloc(),
+        &Case {
+            words: FIVE,
+            input: b"aig 3 2 0 1 1\n6\n\x02\x02",
+            status: Status::Done,
+            output: AND_PROGRAM,
+            note: b"",
+        },
+    )?;
+    let faults: [(&'static [u8], &'static [u8]); 4] = [
+        (
+            b"aig 3 2 0 1 1\n6\n\x02",
+            b"pim: bad input: aiger truncated at byte 17\n",
+        ),
+        (
+            b"aig 3 2 0 1 1\n6\n\x00\x02",
+            b"pim: bad input: aiger delta at byte 16\n",
+        ),
+        (
+            b"aig 3 2 0 1 1\n6\n\x80\x80\x80\x80\x80\x01",
+            b"pim: bad input: aiger delta at byte 16\n",
+        ),
+        (b"aig 5 2 0 1 1\n", b"pim: bad input: aiger header\n"),
+    ];
+    for (input, note) in faults {
+        check(
+            &rt,
+            rt.alloc(),
+            &Case {
+                words: FIVE,
+                input,
+                status: Status::BadInput,
+                output: b"",
+                note,
+            },
+        )?;
+    }
+    Ok(())
+}

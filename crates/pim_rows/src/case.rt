@@ -1,0 +1,53 @@
+//! One call of the tool over memory, and what it has to answer.
+use pim_io::{MemSink, MemSource};
+use pim_top::{Status, pim};
+use std::alloc::Global;
+use std::process::Abort;
+use std::test::Fail;
+
+/// The program of a two-input AND.
+pub const AND_PROGRAM: &[u8] =
+    b"pim 1\ntarget magic\ncells 5\ninput 0 i0\ninput 1 i1\noutput 4 o0\ncycles 4\ninit 2 3 4\nnot 2 1\nnot 3 0\nnor 4 2 3\nend\n";
+
+/// A two-input AND in ASCII AIGER.
+pub const AND_NETLIST: &[u8] = b"aag 3 2 0 1 1\n2\n4\n6\n6 4 2\n";
+
+/// Words, standard input, and the status, output and note that they have to give.
+#[derive(Clone, Copy)]
+pub struct Case {
+    pub words: &'static [&'static str],
+    pub input: &'static [u8],
+    pub status: Status,
+    pub output: &'static [u8],
+    pub note: &'static [u8],
+}
+
+/// The words as the tool takes them.
+pub fn words_of(alloc: Global, words: &[&str]) -> Result<Vec<String>, Fail> {
+    let mut all = Vec::new(alloc);
+    for word in words {
+        all.push(String::from_str(alloc, word)?)?;
+    }
+    Ok(all)
+}
+
+/// Makes the call with ample memory and room, and compares.
+pub fn check(rt: &impl Abort, alloc: Global, case: &Case) -> Result<(), Fail> {
+    let words = words_of(alloc, case.words)?;
+    let mut program = MemSource::new(alloc, b"", 1, &[])?;
+    let mut input = MemSource::new(alloc, case.input, 7, &[])?;
+    let mut output = MemSink::new(alloc, 65_536, 4_096, &[])?;
+    let mut notes = MemSink::new(alloc, 65_536, 4_096, &[])?;
+    let status = pim(
+        alloc,
+        &words,
+        &mut program,
+        &mut input,
+        &mut output,
+        &mut notes,
+    );
+    assert_eq!(rt; status, case.status);
+    assert_eq!(rt; output.bytes(), case.output);
+    assert_eq!(rt; notes.bytes(), case.note);
+    Ok(())
+}

@@ -1,0 +1,11 @@
+//! Tests alone: worked examples of the whole tool, as tables over sources and sinks in memory.
+#![tactic(auto)]
+
+#[cfg(test)]
+mod aiger;
+#[cfg(test)]
+mod case;
+#[cfg(test)]
+mod compile;
+#[cfg(test)]
+mod outside;

@@ -1,0 +1,96 @@
+//! Sources and sinks that fail.
+use crate::case::{AND_NETLIST, AND_PROGRAM, words_of};
+use pim_io::{MemSink, MemSource};
+use pim_top::{Status, pim};
+use std::alloc::Global;
+use std::test::Fail;
+
+const FIVE: &[&str] = &["compile", "--target", "magic", "--cells", "5"];
+
+/// How a call with a failing source or sink ended.
+#[derive(Drop)]
+struct Ending {
+    status: Status,
+    output: Vec<u8>,
+    notes: Vec<u8>,
+}
+
+/// Compiles the AND one byte at a time, where these calls of the input, the output and the notes fail.
+fn compile_and(
+    alloc: Global,
+    input_failing: &[u64],
+    output_failing: &[u64],
+    room: usize,
+) -> Result<Ending, Fail> {
+    let words = words_of(alloc, FIVE)?;
+    let mut program = MemSource::new(alloc, b"", 1, &[])?;
+    let mut input = MemSource::new(alloc, AND_NETLIST, 1, input_failing)?;
+    let mut output = MemSink::new(alloc, room, 1, output_failing)?;
+    let mut notes = MemSink::new(alloc, 4_096, 4_096, &[])?;
+    let status = pim(
+        alloc,
+        &words,
+        &mut program,
+        &mut input,
+        &mut output,
+        &mut notes,
+    );
+    Ok(Ending {
+        status,
+        output: Vec::from_slice(alloc, output.bytes())?,
+        notes: Vec::from_slice(alloc, notes.bytes())?,
+    })
+}
+
+#[test]
+fn a_failing_read_writes_nothing(rt: HostRuntime) -> Result<(), Fail> {
+    for k in [0, 1, 13, 26] {
+        let ending = compile_and(rt.alloc(), &[k], &[], 4_096)?;
+        assert_eq!(rt; ending.status, Status::ReadFault, "at read {k}");
+        assert_eq!(rt; ending.output.as_slice(), b"".as_slice());
+        assert_eq!(rt;
+            ending.notes.as_slice(),
+            b"pim: read fault: input\n".as_slice()
+        );
+    }
+    let ending = compile_and(rt.alloc(), &[27], &[], 4_096)?;
+    assert_eq!(rt; ending.status, Status::Done);
+    assert_eq!(rt; ending.output.as_slice(), AND_PROGRAM);
+    Ok(())
+}
+
+#[test]
+fn a_failing_write_leaves_a_prefix(rt: HostRuntime) -> Result<(), Fail> {
+    for k in [0usize, 1, 60, 110] {
+        let failing = compile_and(rt.alloc(), &[], &[k as u64], 4_096)?;
+        let full = compile_and(rt.alloc(), &[], &[], k)?;
+        for ending in [&failing, &full] {
+            assert_eq!(rt; ending.status, Status::WriteFault, "at write {k}");
+            assert_eq!(rt; Some(ending.output.as_slice()), AND_PROGRAM.get(..k));
+            assert_eq!(rt; ending.notes.as_slice(), b"pim: write fault\n".as_slice());
+        }
+    }
+    Ok(())
+}
+
+#[test]
+fn failing_notes_change_nothing(rt: HostRuntime) -> Result<(), Fail> {
+    let alloc = rt.alloc();
+    let words = words_of(alloc, &["compile", "--target", "magic", "--cells", "4"])?;
+    let mut program = MemSource::new(alloc, b"", 1, &[])?;
+    let mut input = MemSource::new(alloc, AND_NETLIST, 7, &[])?;
+    let mut output = MemSink::new(alloc, 4_096, 4_096, &[])?;
+    let mut notes = MemSink::new(alloc, 4_096, 4_096, &[0])?;
+    let status = pim(
+        alloc,
+        &words,
+        &mut program,
+        &mut input,
+        &mut output,
+        &mut notes,
+    );
+    assert_eq!(rt; status, Status::TooFewCells);
+    assert_eq!(rt; output.bytes(), b"".as_slice());
+    assert_eq!(rt; notes.bytes(), b"".as_slice());
+    Ok(())
+}
