@@ -1,3 +1,8 @@
+pub mod ChainValues
+pub mod CoverValues
+pub mod EquationValues
+pub mod FlatValues
 pub mod Linking
 pub mod Rows
+pub mod SignalValues
 pub mod TableSteps

@@ -16,10 +16,10 @@ use Rattle.pim_aig.proofs.Rows.{rows_from-le}
 use Rattle.pim_aig.specs.Literals.{plain}
 use Rattle.pim_aig.specs.declared.literal.Lit.{Lit}
 
-put_same : (lits : ℕ → Lit) (s t : ℕ) (l : Lit) → t ≡ s → put lits s l t ≡ l
+pub put_same : (lits : ℕ → Lit) (s t : ℕ) (l : Lit) → t ≡ s → put lits s l t ≡ l
 put_same lits s t l e = grind (arith, nat_tests)
 
-put_other : (lits : ℕ → Lit) (s t : ℕ) (l : Lit) → t ≢ s → put lits s l t ≡ lits t
+pub put_other : (lits : ℕ → Lit) (s t : ℕ) (l : Lit) → t ≢ s → put lits s l t ≡ lits t
 put_other lits s t l e = grind (arith, nat_tests)
 
 set_at : (table : List Lit) (s t : ℕ) (l : Lit) → s < length table → literals_of (set table s l) t ≡ put (literals_of table) s l t

@@ -1,10 +1,12 @@
-ghost use Rattle.std.specs.Prelude.{◌≡◌, ◌+◌, ◌<◌, ◌≤◌, ◌++◌, All, Some, map, length, IfErr, IfOk, OnOk, vec_len};
+ghost use Rattle.std.specs.Prelude.{◌≡◌, ◌+◌, ◌<◌, ◌≤◌, ◌++◌, List, Bool, All, Some, map, length, IfErr, IfOk, OnOk, vec_len};
 ghost use Rattle.pim_net.specs.Netlist.{draft_of};
+ghost use Rattle.pim_net.specs.Values.{outs};
 ghost use Rattle.pim_net.specs.WellFormed.{IsNet};
 ghost use Rattle.pim_aig.specs.Chains.{literals_of};
 ghost use Rattle.pim_aig.specs.Faults.{Says};
 ghost use Rattle.pim_aig.specs.Flat.{equation_from, equations_from, flat, inputs_from, no_literals, output_literal};
 ghost use Rattle.pim_aig.specs.Graph.{Grows, IsOfFirst, nodes};
+ghost use Rattle.pim_aig.specs.Values.{aval};
 
 use crate::cover::cover_literal;
 use crate::{Aig, FlatFault, Lit};
@@ -105,11 +107,15 @@ fn outputs(aig: &mut Aig, table: &[Lit], outputs: &[OutRef]) -> Result<(), NoMem
 }
 
 /// The flat graph of a netlist: each equation, by depth and then in order, becomes chains of AND nodes. Nothing is folded
-/// or shared. Linear in the cells of all covers.
+/// or shared, and at each assignment of the inputs the graph's outputs have the netlist's values. Linear in the cells of all
+/// covers.
 pub fn flatten(alloc: Global, net: &Net) -> Result<Aig, FlatFault>
     ensures flat { IfOk result (λ aig. aig ≡ flat net.now) }
+    ensures values { IfOk result (λ aig. (bits : List Bool) → length bits ≡ length net.now.inputs
+        → map (aval aig bits) aig.outputs ≡ outs net.now bits) }
     ensures fault { IfErr result (λ fault. Says fault (length (flat net.now).ands)) }
 {
+    net.has_values();
     let mut aig = Aig::new(alloc, net.inputs().len() as u32);
     let mut table = input_table(alloc, SIGNALS, net.inputs())?;
     equations(alloc, &mut aig, &mut table, net)?;

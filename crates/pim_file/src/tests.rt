@@ -2,6 +2,11 @@ use crate::print;
 use pim_isa::{Cells, Ins, Instr, Operand, Program, ProgramDraft, Target};
 use std::test::Fail;
 
+/// A NOR into cell 11.
+fn nor(ins: Ins) -> Instr {
+    Instr::Nor { t: 11, ins }
+}
+
 /// Every NOR, an Init of two cells, and labels.
 #[test]
 fn prints_magic(rt: HostRuntime) -> Result<(), Fail> {
@@ -13,15 +18,10 @@ fn prints_magic(rt: HostRuntime) -> Result<(), Fail> {
     cells.push(10)?;
     cells.push(11)?;
     draft.add(Instr::Init(cells))?;
-    let nors = [
-        Ins::One(0),
-        Ins::Two(0, 1),
-        Ins::Three(0, 1, 2),
-        Ins::Four(0, 1, 2, 3),
-    ];
-    for ins in nors {
-        draft.add(Instr::Nor { t: 11, ins })?;
-    }
+    draft.add(nor(Ins::One(0)))?;
+    draft.add(nor(Ins::Two(0, 1)))?;
+    draft.add(nor(Ins::Three(0, 1, 2)))?;
+    draft.add(nor(Ins::Four(0, 1, 2, 3)))?;
     let program = Program::new(draft)?;
     let text = print(alloc, &program)?;
     assert_eq!(rt;
