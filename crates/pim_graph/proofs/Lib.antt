@@ -1,0 +1,9 @@
+mod Examples
+pub mod Placing
+pub mod ReadLemmas
+pub mod StableSorts
+pub mod Stacks
+pub mod UsageSteps
+pub mod Visits
+pub mod Walks
+pub mod Wholes

@@ -1,0 +1,22 @@
+ghost use Rattle.std.specs.Prelude.{◌≡◌, IfOk};
+ghost use Rattle.pim_graph.specs.Graphs.{IsGraph};
+ghost use Rattle.pim_graph.specs.Orders.{order};
+
+use crate::Graph;
+use crate::falling::sort_falling;
+use crate::usages::usage;
+use crate::walk::walk;
+use pim_io::NoMemory;
+use std::alloc::Global;
+
+/// The gates that the roots reach, each once and after its children, in the order of a depth-first visit: the roots, and
+/// at each gate its children, by falling usage, those of one usage in their order. Linear in the gates, but for
+/// sorting n roots, which takes n log n.
+pub fn order(alloc: Global, graph: &Graph) -> Result<Vec<u32>, NoMemory>
+    ensures { IfOk result (λ gates. gates.items ≡ order graph.now) }
+{
+    let usage = usage(alloc, graph)?;
+    let mut roots = Vec::from_slice(alloc, graph.roots())?;
+    sort_falling(&mut roots, &usage)?;
+    walk(alloc, graph, &usage, &roots)
+}

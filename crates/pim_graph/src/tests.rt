@@ -1,0 +1,29 @@
+use crate::{Graph, order, peak, usage};
+use std::test::Fail;
+
+/// Gate 2 reads gates 0 and 1, gate 3 reads gates 1 and 2, so gate 2 with its greater usage is visited first. Root 4 is
+/// named before root 3, and has the lower usage.
+#[test]
+fn a_gate_and_what_it_reads(rt: HostRuntime) -> Result<(), Fail> {
+    let mut graph = Graph::new(rt.alloc());
+    let a = graph.add(&[])?;
+    let b = graph.add(&[])?;
+    let c = graph.add(&[a, b])?;
+    let d = graph.add(&[b, c])?;
+    let e = graph.add(&[])?;
+    graph.add_root(e)?;
+    graph.add_root(d)?;
+    graph.add_root(d)?;
+    assert_eq!(rt;
+        usage(rt.alloc(), &graph)?.as_slice(),
+        [1, 1, 3, 3, 1].as_slice()
+    );
+    assert_eq!(rt;
+        order(rt.alloc(), &graph)?.as_slice(),
+        [0, 1, 2, 3, 4].as_slice()
+    );
+    assert_eq!(rt; peak(rt.alloc(), &graph, &[])?, 0);
+    assert_eq!(rt; graph.roots(), [4, 3].as_slice());
+    assert_eq!(rt; graph.children(d), [1, 2].as_slice());
+    Ok(())
+}
