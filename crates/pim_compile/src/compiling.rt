@@ -1,6 +1,7 @@
-ghost use Rattle.std.specs.Prelude.{◌≡◌, ◌<◌, ◌≤◌, ◌+◌, [], ◌++◌, length, take, IfOk, OnOk};
+ghost use Rattle.std.specs.Prelude.{◌≡◌, ◌<◌, ◌≤◌, ◌+◌, [], ◌++◌, length, take, IfErr, IfOk, OnOk};
 ghost use Rattle.pim_isa.specs.Primed.{IsPrimed};
-ghost use Rattle.pim_compile.specs.Computes.{Computes, flat_outs};
+ghost use Rattle.pim_compile.specs.Computes.{Computes};
+ghost use Rattle.pim_compile.specs.Refusals.{IsAccepted, IsRefusal};
 ghost use Rattle.pim_isa.specs.declared.target.Target.TheVariants as Isa;
 ghost use Rattle.pim_isa.specs.declared.draft.TheConstants.{MAX_CELLS};
 
@@ -40,7 +41,9 @@ pub fn compile(
     requires { budget ≤ MAX_CELLS }
     ensures primed { IfOk result (λ program. IsPrimed program.instrs) }
     ensures cells { IfOk result (λ program. program.cells ≤ budget) }
-    ensures computes { IfOk result (λ program. Computes program net.now (flat_outs net.now)) }
+    ensures accepted { OnOk result (IsAccepted net.now budget) }
+    ensures refused { IfErr result (IsRefusal net.now budget) }
+    ensures computes { IfOk result (λ program. Computes program net.now) }
     ensures target { IfOk result (λ program. program.target ≡ Isa.Magic) }
 {
     match (target, level) {
@@ -53,7 +56,9 @@ fn magic(alloc: Global, net: &Net, budget: u32) -> Result<Program, Refusal>
     requires { budget ≤ MAX_CELLS }
     ensures primed { IfOk result (λ program. IsPrimed program.instrs) }
     ensures cells { IfOk result (λ program. program.cells ≤ budget) }
-    ensures computes { IfOk result (λ program. Computes program net.now (flat_outs net.now)) }
+    ensures accepted { OnOk result (IsAccepted net.now budget) }
+    ensures refused { IfErr result (IsRefusal net.now budget) }
+    ensures computes { IfOk result (λ program. Computes program net.now) }
     ensures target { IfOk result (λ program. program.target ≡ Isa.Magic) }
 {
     let aig = match flatten(alloc, net) {
