@@ -1,4 +1,8 @@
 //! Why a command wrote nothing, with the evidence that its note names.
+ghost use Rattle.std.specs.Prelude.{◌≡◌};
+ghost use Rattle.pim_top.specs.Statuses.{status_of, words_refusal, IsInner};
+ghost use Rattle.pim_top.specs.Refusals.{aiger_refusal};
+
 use crate::Status;
 use pim_aiger::AigerFault;
 use pim_net::{Kind, NetFault};
@@ -30,7 +34,9 @@ pub enum Refusal {
 
 impl Refusal {
     /// The status that the call ends with.
-    pub fn status(&self) -> Status {
+    pub fn status(&self) -> Status
+        ensures { result ≡ status_of self.now }
+    {
         match self {
             Refusal::Usage => Status::Usage,
             Refusal::ReadFault => Status::ReadFault,
@@ -43,7 +49,9 @@ impl Refusal {
     }
 
     /// The refusal that words come to.
-    pub fn of_words(fault: &WordsFault) -> Refusal {
+    pub fn of_words(fault: &WordsFault) -> Refusal
+        ensures { result ≡ words_refusal fault.now }
+    {
         match fault {
             WordsFault::Usage => Refusal::Usage,
             WordsFault::NoMemory => Refusal::NoMemory,
@@ -51,7 +59,10 @@ impl Refusal {
     }
 
     /// The refusal that a fault of an AIGER file comes to: a limit and want of memory have statuses of their own.
-    pub fn of_aiger(fault: AigerFault) -> Refusal {
+    pub fn of_aiger(fault: AigerFault) -> Refusal
+        ensures value { result ≡ aiger_refusal fault }
+        ensures inner { IsInner result }
+    {
         match fault {
             AigerFault::TooLarge(kind) => Refusal::TooLarge(Limit::Netlist(kind)),
             AigerFault::NoMemory | AigerFault::Net(NetFault::NoMemory, _) => Refusal::NoMemory,

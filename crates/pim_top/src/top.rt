@@ -1,6 +1,11 @@
 //! The call itself: words in, a status out, and everything that is read and written on the way.
-ghost use Rattle.std.specs.Prelude.{◌≤◌, length, IfOk, vec_len};
-ghost use Rattle.pim_words.specs.Reading.{IsWithin};
+ghost use Rattle.std.specs.Prelude.{◌≡◌, ◌≢◌, ◌≤◌, length, map, true, false, IfErr, IfOk, OnOk, vec_len};
+ghost use Rattle.std.specs.String.{string_bytes};
+ghost use Rattle.pim_io.specs.Outside.{GaveAll, Rose};
+ghost use Rattle.pim_words.specs.Reading.{IsWithin, is_usage};
+ghost use Rattle.pim_top.specs.Compiled.{IsCut, IsDone, Writes};
+ghost use Rattle.pim_top.specs.Refusals.{budget_of, Explains, IsAlwaysExplained, IsExplained, IsRefused};
+ghost use Rattle.pim_top.specs.Statuses.{IsInner, status_of};
 
 use crate::Status;
 use crate::commands::compile;
@@ -25,7 +30,21 @@ pub fn pim<P: Source, S: Source, K: Sink, E: Sink>(
     input: &mut S,
     output: &mut K,
     notes: &mut E,
-) -> Status {
+) -> Status
+    // Where the input and the output tell their bytes, the words say a command and the output took what it writes.
+    ensures done { result ≡ Status.Done
+        → IsDone (map string_bytes words.now) (S.left input.old) (S.left input.new) (K.taken output.old) (K.taken output.new) }
+    ensures cut { result ≡ Status.WriteFault
+        → IsCut (map string_bytes words.now) (S.left input.old) (S.left input.new) (K.taken output.old) (K.taken output.new) }
+    ensures refused { result ≢ Status.Done → IsRefused (map string_bytes words.now) (S.left input.old) (S.left input.new) result }
+    ensures nothing { result ≢ Status.Done → result ≢ Status.WriteFault → K.taken output.new ≡ K.taken output.old }
+
+    // Each fault of the outside was counted in this call.
+    ensures read_fault { result ≡ Status.ReadFault → Rose (S.faults input.old) (S.faults input.new) }
+    ensures write_fault { result ≡ Status.WriteFault → Rose (K.faults output.old) (K.faults output.new) }
+    ensures usage { result ≡ Status.Usage → is_usage (map string_bytes words.now) ≡ true }
+    ensures accepted { result ≢ Status.Usage → result ≢ Status.NoMemory → is_usage (map string_bytes words.now) ≡ false }
+{
     match obey(alloc, words, input, output) {
         Ok(()) => Status::Done,
         Err(refusal) => {
@@ -41,7 +60,20 @@ fn obey<S: Source, K: Sink>(
     words: &[String],
     input: &mut S,
     output: &mut K,
-) -> Result<(), Refusal> {
+) -> Result<(), Refusal>
+    ensures done { OnOk result (IsDone (map string_bytes words.now)
+        (S.left input.old) (S.left input.new) (K.taken output.old) (K.taken output.new)) }
+    ensures cut { IfErr result (λ refusal. status_of refusal ≡ Status.WriteFault → IsCut (map string_bytes words.now)
+        (S.left input.old) (S.left input.new) (K.taken output.old) (K.taken output.new)) }
+    ensures nothing { IfErr result (λ refusal. status_of refusal ≢ Status.WriteFault → K.taken output.new ≡ K.taken output.old) }
+    ensures read_fault { IfErr result (λ refusal. status_of refusal ≡ Status.ReadFault → Rose (S.faults input.old) (S.faults input.new)) }
+    ensures write_fault { IfErr result (λ refusal. status_of refusal ≡ Status.WriteFault → Rose (K.faults output.old) (K.faults output.new)) }
+    ensures usage { IfErr result (λ refusal. status_of refusal ≡ Status.Usage → is_usage (map string_bytes words.now) ≡ true) }
+    ensures accepted { IfErr result (λ refusal. status_of refusal ≢ Status.Usage → status_of refusal ≢ Status.NoMemory → is_usage (map string_bytes words.now) ≡ false) }
+    ensures valid { OnOk result (is_usage (map string_bytes words.now) ≡ false) }
+    ensures ends { IfErr result (λ refusal. status_of refusal ≢ Status.Done) }
+    ensures explained { IfErr result (IsExplained (map string_bytes words.now) (S.left input.old) (S.left input.new)) }
+{
     let command = match pim_words::read(alloc, words) {
         Ok(command) => command,
         Err(fault) => return Err(Refusal::of_words(&fault)),
@@ -58,6 +90,9 @@ fn obey<S: Source, K: Sink>(
 fn text_of(alloc: Global, command: Command, bytes: &[u8]) -> Result<Vec<u8>, Refusal>
     requires within { IsWithin command }
     requires bytes { length bytes.now ≤ 67108864 }
+    ensures written { IfOk result (λ text. Writes command bytes.now text.items) }
+    ensures refused { IfErr result IsInner }
+    ensures explained { IfErr result (Explains bytes.now (budget_of command)) }
 {
     match command {
         Command::Compile {
@@ -77,7 +112,11 @@ fn text_of(alloc: Global, command: Command, bytes: &[u8]) -> Result<Vec<u8>, Ref
 
 /// All bytes of the input, within the limit.
 fn input_bytes<S: Source>(alloc: Global, input: &mut S) -> Result<Vec<u8>, Refusal>
-    ensures { IfOk result (λ bytes. vec_len bytes ≤ 67108864) }
+    ensures within { IfOk result (λ bytes. vec_len bytes ≤ 67108864) }
+    ensures all { IfOk result (λ bytes. GaveAll (S.left input.old) (S.left input.new) bytes.items) }
+    ensures read_fault { IfErr result (λ refusal. status_of refusal ≡ Status.ReadFault → Rose (S.faults input.old) (S.faults input.new)) }
+    ensures others { IfErr result (λ refusal. status_of refusal ≢ Status.ReadFault → IsInner refusal) }
+    ensures explained { IfErr result (IsAlwaysExplained (S.left input.old) (S.left input.new)) }
 {
     match read_all(alloc, input, INPUT_BYTES) {
         Ok(bytes) => Ok(bytes),

@@ -1,6 +1,9 @@
 //! `compile`: a netlist becomes the text of a program.
-ghost use Rattle.std.specs.Prelude.{◌≤◌, length};
+ghost use Rattle.std.specs.Prelude.{◌≡◌, ◌≤◌, length, IfErr, IfOk};
 ghost use Rattle.pim_isa.specs.declared.draft.TheConstants.{MAX_CELLS};
+ghost use Rattle.pim_top.specs.Compiled.{Compiled};
+ghost use Rattle.pim_top.specs.Refusals.{compile_refusal, Explains};
+ghost use Rattle.pim_top.specs.Statuses.{IsInner};
 
 use crate::refusal::{Limit, Refusal};
 use pim_compile::{Level, Target, compile};
@@ -19,6 +22,9 @@ pub struct Options {
 pub fn text(alloc: Global, bytes: &[u8], options: &Options) -> Result<Vec<u8>, Refusal>
     requires bytes { length bytes.now ≤ 67108864 }
     requires cells { options.now.cells ≤ MAX_CELLS }
+    ensures written { IfOk result (λ text. Compiled bytes.now options.now.cells text.items) }
+    ensures refused { IfErr result IsInner }
+    ensures explained { IfErr result (Explains bytes.now options.now.cells) }
 {
     let net = match pim_aiger::read(alloc, bytes) {
         Ok(net) => net,
@@ -35,7 +41,10 @@ pub fn text(alloc: Global, bytes: &[u8], options: &Options) -> Result<Vec<u8>, R
 }
 
 /// The refusal that one of the compiler comes to.
-fn of_compile(refusal: &pim_compile::Refusal) -> Refusal {
+fn of_compile(refusal: &pim_compile::Refusal) -> Refusal
+    ensures value { result ≡ compile_refusal refusal.now }
+    ensures inner { IsInner result }
+{
     match refusal {
         pim_compile::Refusal::TooFewCells { needed } => Refusal::TooFewCells { needed: *needed },
         pim_compile::Refusal::TooLarge => Refusal::TooLarge(Limit::Nodes),

@@ -1,0 +1,111 @@
+-- Which inputs a command refuses, and why.
+use Rattle.std.specs.Prelude.{◌≡◌, ℕ, ◌<◌, ◌≤◌, List, [], Option, Some, Ok, Err, length}
+use Rattle.pim_io.specs.Outside.{Told}
+use Rattle.pim_net.specs.Netlist.{NetView, draft_of}
+use Rattle.pim_net.specs.WellFormed.{IsNet}
+use Rattle.pim_net.specs.declared.fault.NetFault.TheVariants as net
+use Rattle.pim_aiger.specs.Files.{net_of}
+use Rattle.pim_aiger.specs.declared.fault.AigerFault.{AigerFault}
+use Rattle.pim_aiger.specs.declared.fault.AigerFault.TheVariants as aiger
+use Rattle.pim_compile.specs.Refusals.{node_count, wide_need}
+use Rattle.pim_compile.specs.declared.refusal.Refusal.{Refusal as Compiler}
+use Rattle.pim_compile.specs.declared.refusal.Refusal.TheVariants as compiler
+use Rattle.pim_words.specs.Reading.{command_said}
+use Rattle.pim_words.specs.declared.command.Command.{Command}
+use Rattle.pim_words.specs.declared.command.Command.TheVariants.{Compile}
+use Rattle.pim_top.specs.Statuses.{status_of}
+use Rattle.pim_top.specs.declared.refusal.Limit.TheVariants as limit
+use Rattle.pim_top.specs.declared.refusal.Refusal.{Refusal}
+use Rattle.pim_top.specs.declared.refusal.Refusal.TheVariants as refusal
+use Rattle.pim_top.specs.declared.status.Status.{Status}
+
+-- the refusal of an AIGER fault: a limit and want of memory have statuses of their own
+abbrev pub aiger_refusal : AigerFault → Refusal
+aiger_refusal aiger.Header = refusal.Aiger aiger.Header
+aiger_refusal aiger.Latches = refusal.Aiger aiger.Latches
+aiger_refusal (aiger.Number place) = refusal.Aiger (aiger.Number place)
+aiger_refusal (aiger.Literal place) = refusal.Aiger (aiger.Literal place)
+aiger_refusal (aiger.Truncated place) = refusal.Aiger (aiger.Truncated place)
+aiger_refusal (aiger.Delta place) = refusal.Aiger (aiger.Delta place)
+aiger_refusal (aiger.Symbol place) = refusal.Aiger (aiger.Symbol place)
+aiger_refusal (aiger.Net (net.Twice s) names) = refusal.Aiger (aiger.Net (net.Twice s) names)
+aiger_refusal (aiger.Net (net.Undriven s) names) = refusal.Aiger (aiger.Net (net.Undriven s) names)
+aiger_refusal (aiger.Net (net.Cycle ss) names) = refusal.Aiger (aiger.Net (net.Cycle ss) names)
+aiger_refusal (aiger.Net net.NoMemory names) = refusal.NoMemory
+aiger_refusal (aiger.TooLarge kind) = refusal.TooLarge (limit.Netlist kind)
+aiger_refusal aiger.NoMemory = refusal.NoMemory
+
+-- the refusal of one of the compiler
+abbrev pub compile_refusal : Compiler → Refusal
+compile_refusal (compiler.TooFewCells needed) = refusal.TooFewCells needed
+compile_refusal compiler.TooLarge = refusal.TooLarge limit.Nodes
+compile_refusal compiler.NoMemory = refusal.NoMemory
+
+-- the bytes were read to their end, and are within the limit
+pub record WasRead (bytes rest : List ℕ) : Type 0 where
+  pub all : rest ≡ []
+  pub fits : length bytes ≤ 67108864
+
+-- the bytes are a netlist that needs so many cells, which are more than the budget
+pub record NeedsMore (bytes : List ℕ) (budget needed : ℕ) : Type 0 where
+  pub net : NetView
+  pub checked : IsNet net
+  pub is_net : net_of bytes ≡ Ok (draft_of net)
+  pub few : node_count net ≤ 1048576
+  pub is_need : needed ≡ wide_need net
+  pub more : budget < needed
+
+-- the bytes are a netlist whose flat graph has too many AND nodes
+pub record HasTooManyNodes (bytes : List ℕ) : Type 0 where
+  pub net : NetView
+  pub checked : IsNet net
+  pub is_net : net_of bytes ≡ Ok (draft_of net)
+  pub many : 1048576 < node_count net
+
+-- what a refusal of `compile` says of the bytes of its input
+abbrev pub Explains : List ℕ → ℕ → Refusal → Type 0
+Explains bytes budget refusal.Usage = Unit {0}
+Explains bytes budget refusal.ReadFault = Unit {0}
+Explains bytes budget refusal.WriteFault = Unit {0}
+Explains bytes budget refusal.NoMemory = Unit {0}
+Explains bytes budget (refusal.TooFewCells needed) = NeedsMore bytes budget needed
+Explains bytes budget (refusal.TooLarge limit.Bytes) = 67108864 < length bytes
+Explains bytes budget (refusal.TooLarge limit.Nodes) = HasTooManyNodes bytes
+Explains bytes budget (refusal.TooLarge (limit.Netlist kind)) = net_of bytes ≡ Err (aiger.TooLarge kind)
+Explains bytes budget (refusal.Aiger fault) = net_of bytes ≡ Err fault
+
+-- a refusal that judges the bytes that were read
+abbrev pub IsOfBytes : Refusal → Type 0
+IsOfBytes refusal.Usage = ⊥
+IsOfBytes refusal.ReadFault = ⊥
+IsOfBytes refusal.WriteFault = Unit {0}
+IsOfBytes refusal.NoMemory = ⊥
+IsOfBytes (refusal.TooFewCells needed) = Unit {0}
+IsOfBytes (refusal.TooLarge limit.Bytes) = ⊥
+IsOfBytes (refusal.TooLarge limit.Nodes) = Unit {0}
+IsOfBytes (refusal.TooLarge (limit.Netlist kind)) = Unit {0}
+IsOfBytes (refusal.Aiger fault) = Unit {0}
+
+-- the number of cells that a command allows
+abbrev pub budget_of : Command → ℕ
+budget_of (Compile target level cells) = cells
+
+-- what a refusal of a command says of the bytes of its input, where some were left before the call and some after it
+abbrev pub Refuses : Command → List ℕ → List ℕ → Refusal → Type 0
+Refuses command bytes rest r = Explains bytes (budget_of command) r × (IsOfBytes r → WasRead bytes rest)
+
+-- a refusal that is explained whatever the command is
+abbrev pub IsAlwaysExplained : Option (List ℕ) → Option (List ℕ) → Refusal → Type 0
+IsAlwaysExplained left_before left_now r =
+    (command : Command) → Told left_before left_now (λ bytes rest. Refuses command bytes rest r)
+
+-- words that say a command are refused only for what the command says of the bytes
+abbrev pub IsExplained : List (List ℕ) → Option (List ℕ) → Option (List ℕ) → Refusal → Type 0
+IsExplained words left_before left_now r =
+    (command : Command) → command_said words ≡ Some command → Told left_before left_now (λ bytes rest. Refuses command bytes rest r)
+
+-- a call that ended with this status had a refusal of that status, which is explained
+pub record IsRefused (words : List (List ℕ)) (left_before left_now : Option (List ℕ)) (status : Status) : Type 0 where
+  pub refusal : Refusal
+  pub ends : status_of refusal ≡ status
+  pub explained : IsExplained words left_before left_now refusal
