@@ -1,3 +1,4 @@
 pub mod Compiled
 pub mod Statuses
 pub mod Refusals
+pub mod Notes

@@ -1,18 +1,19 @@
 -- Which inputs a command refuses, and why.
-use Rattle.std.specs.Prelude.{◌≡◌, ℕ, ◌<◌, ◌≤◌, List, [], Option, Some, Ok, Err, length}
+use Rattle.std.specs.Prelude.{◌≡◌, ℕ, ◌<◌, ◌≤◌, List, [], Option, Some, Ok, Err, false, length}
 use Rattle.pim_io.specs.Outside.{Told}
-use Rattle.pim_net.specs.Netlist.{NetView, draft_of}
+use Rattle.pim_net.specs.Netlist.{DraftView, NetView, draft_of}
 use Rattle.pim_net.specs.WellFormed.{IsNet}
 use Rattle.pim_net.specs.declared.fault.NetFault.TheVariants as net
 use Rattle.pim_aiger.specs.Files.{net_of}
 use Rattle.pim_aiger.specs.declared.fault.AigerFault.{AigerFault}
 use Rattle.pim_aiger.specs.declared.fault.AigerFault.TheVariants as aiger
-use Rattle.pim_compile.specs.Refusals.{node_count, wide_need}
+use Rattle.pim_compile.specs.Refusals.{IsAccepted, node_count, wide_need}
 use Rattle.pim_compile.specs.declared.refusal.Refusal.{Refusal as Compiler}
 use Rattle.pim_compile.specs.declared.refusal.Refusal.TheVariants as compiler
-use Rattle.pim_words.specs.Reading.{command_said}
+use Rattle.pim_words.specs.Reading.{command_said, is_usage}
 use Rattle.pim_words.specs.declared.command.Command.{Command}
 use Rattle.pim_words.specs.declared.command.Command.TheVariants.{Compile}
+use Rattle.pim_top.specs.Notes.{IsNoted, note}
 use Rattle.pim_top.specs.Statuses.{status_of}
 use Rattle.pim_top.specs.declared.refusal.Limit.TheVariants as limit
 use Rattle.pim_top.specs.declared.refusal.Refusal.{Refusal}
@@ -104,8 +105,19 @@ abbrev pub IsExplained : List (List ℕ) → Option (List ℕ) → Option (List 
 IsExplained words left_before left_now r =
     (command : Command) → command_said words ≡ Some command → Told left_before left_now (λ bytes rest. Refuses command bytes rest r)
 
--- a call that ended with this status had a refusal of that status, which is explained
-pub record IsRefused (words : List (List ℕ)) (left_before left_now : Option (List ℕ)) (status : Status) : Type 0 where
+-- a call that ended with this status had a refusal of that status, which is explained, and whose note was written
+pub record IsRefused (words : List (List ℕ)) (left_before left_now noted_before noted_now : Option (List ℕ)) (faults_before faults_now : ℕ) (status : Status) : Type 0 where
   pub refusal : Refusal
   pub ends : status_of refusal ≡ status
   pub explained : IsExplained words left_before left_now refusal
+  pub noted : IsNoted noted_before noted_now faults_before faults_now (note refusal)
+
+-- the words say a command, and the bytes are a netlist within the limits for which its budget is enough
+pub record IsFine (words : List (List ℕ)) (bytes : List ℕ) : Type 0 where
+  pub command : Command
+  pub said : command_said words ≡ Some command
+  pub accepted : is_usage words ≡ false
+  pub fits : length bytes ≤ 67108864
+  pub draft : DraftView
+  pub is_net : net_of bytes ≡ Ok draft
+  pub enough : (net : NetView) → IsNet net → draft_of net ≡ draft → IsAccepted net (budget_of command)

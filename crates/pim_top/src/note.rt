@@ -1,94 +1,179 @@
 //! The one line that a refusal writes to the notes.
+ghost use Rattle.std.specs.Prelude.{◌≡◌, ◌≤◌, ◌++◌, OnErr, OnOk, codes, decimal};
+ghost use Rattle.pim_io.specs.Outside.{Rose, TookAll, TookFirst};
+ghost use Rattle.pim_top.specs.Notes.{aiger_detail, cycle_labels, label_of, limit_word, net_detail, note, IsNoted};
+
 use crate::refusal::{Limit, Refusal};
 use itoa::Buffer;
 use pim_aiger::AigerFault;
 use pim_io::{Sink, SinkFault, write_all};
 use pim_net::{Kind, Names, NetFault};
 
+/// Writes the note of a refusal, as far as the sink takes it.
+pub fn tell<E: Sink>(refusal: &Refusal, notes: &mut E)
+    ensures { IsNoted (E.taken notes.old) (E.taken notes.new) (E.faults notes.old) (E.faults notes.new) (note refusal.now) }
+{
+    let _ = write_note(refusal, notes);
+}
+
 /// Writes the note of a refusal, piece by piece and without memory: `pim: `, the text and a newline.
 /// It ends at the first piece that the sink refuses.
-pub fn write_note<E: Sink>(refusal: &Refusal, notes: &mut E) -> Result<(), SinkFault> {
-    write_all(notes, b"pim: ")?;
+fn write_note<E: Sink>(refusal: &Refusal, notes: &mut E) -> Result<(), SinkFault>
+    ensures whole { OnOk result (TookAll (E.taken notes.old) (E.taken notes.new) (note refusal.now)) }
+    ensures prefix { OnErr result (TookFirst (E.taken notes.old) (E.taken notes.new) (note refusal.now)) }
+    ensures counted { OnErr result (Rose (E.faults notes.old) (E.faults notes.new)) }
+{
     match refusal {
-        Refusal::Usage => write_all(notes, b"usage")?,
-        Refusal::ReadFault => write_all(notes, b"read fault: input")?,
-        Refusal::WriteFault => write_all(notes, b"write fault")?,
-        Refusal::NoMemory => write_all(notes, b"no memory")?,
-        Refusal::TooFewCells { needed } => write_counted(
-            notes,
-            b"too few cells: needed ",
-            *needed,
-        )?,
-        Refusal::TooLarge(limit) => write_limit(notes, *limit)?,
-        Refusal::Aiger(fault) => write_aiger(notes, fault)?,
-    }
-    write_all(notes, b"\n")
-}
-
-/// Writes a text and a number in decimal.
-fn write_counted<E: Sink>(notes: &mut E, text: &[u8], number: u32) -> Result<(), SinkFault> {
-    let mut digits = Buffer::new();
-    write_all(notes, text)?;
-    write_all(notes, digits.format(number).as_bytes())
-}
-
-/// Writes which limit was passed.
-fn write_limit<E: Sink>(notes: &mut E, limit: Limit) -> Result<(), SinkFault> {
-    write_all(notes, b"too large: ")?;
-    write_all(
-        notes,
-        match limit {
-            Limit::Bytes => b"bytes",
-            Limit::Nodes => b"nodes",
-            Limit::Netlist(Kind::Signals) => b"signals",
-            Limit::Netlist(Kind::Outputs) => b"outputs",
-            Limit::Netlist(Kind::Name) => b"name",
-        },
-    )
-}
-
-/// Writes the fault of an AIGER file with its byte place, or that of its netlist with the signals' names.
-fn write_aiger<E: Sink>(notes: &mut E, fault: &AigerFault) -> Result<(), SinkFault> {
-    write_all(notes, b"bad input: ")?;
-    match fault {
-        AigerFault::Header => write_all(notes, b"aiger header"),
-        AigerFault::Latches => write_all(notes, b"aiger latches"),
-        AigerFault::Number(place) => write_counted(notes, b"aiger number at byte ", *place),
-        AigerFault::Literal(place) => write_counted(notes, b"aiger literal at byte ", *place),
-        AigerFault::Truncated(place) => write_counted(notes, b"aiger truncated at byte ", *place),
-        AigerFault::Delta(place) => write_counted(notes, b"aiger delta at byte ", *place),
-        AigerFault::Symbol(place) => write_counted(notes, b"aiger symbol at byte ", *place),
-        AigerFault::Net(fault, names) => write_net(notes, fault, names),
-        AigerFault::TooLarge(_) | AigerFault::NoMemory => Ok(()),
-    }
-}
-
-/// Writes the fault of a netlist, its signals by their names.
-fn write_net<E: Sink>(notes: &mut E, fault: &NetFault, names: &Names) -> Result<(), SinkFault> {
-    match fault {
-        NetFault::Twice(signal) => write_signal(notes, b"driven twice ", *signal, names),
-        NetFault::Undriven(signal) => write_signal(notes, b"undriven ", *signal, names),
-        NetFault::Cycle(signals) => {
-            write_all(notes, b"cycle")?;
-            for signal in signals.list() {
-                write_signal(notes, b" ", *signal, names)?;
-            }
-            Ok(())
+        Refusal::Usage => write_all(notes, b"pim: usage\n"),
+        Refusal::ReadFault => write_all(notes, b"pim: read fault: input\n"),
+        Refusal::WriteFault => write_all(notes, b"pim: write fault\n"),
+        Refusal::NoMemory => write_all(notes, b"pim: no memory\n"),
+        Refusal::TooFewCells { needed } => {
+            write_counted(notes, b"pim: too few cells: needed ", *needed)
         }
-        NetFault::NoMemory => Ok(()),
+        Refusal::TooLarge(limit) => write_line(notes, b"pim: too large: ", limit_word(*limit)),
+        Refusal::Aiger(fault) => write_aiger(notes, fault),
     }
 }
 
-/// Writes a text and the name of a signal.
-fn write_signal<E: Sink>(
-    notes: &mut E,
-    text: &[u8],
-    signal: u32,
-    names: &Names,
-) -> Result<(), SinkFault> {
-    write_all(notes, text)?;
+/// Writes the fault of an AIGER file with its byte place, or that of its netlist with the signals' labels.
+fn write_aiger<E: Sink>(notes: &mut E, fault: &AigerFault) -> Result<(), SinkFault>
+    ensures whole { OnOk result (TookAll (E.taken notes.old) (E.taken notes.new)
+        (codes "pim: bad input: " ++ (aiger_detail fault.now ++ codes "\n"))) }
+    ensures prefix { OnErr result (TookFirst (E.taken notes.old) (E.taken notes.new)
+        (codes "pim: bad input: " ++ (aiger_detail fault.now ++ codes "\n"))) }
+    ensures counted { OnErr result (Rose (E.faults notes.old) (E.faults notes.new)) }
+{
+    match fault {
+        AigerFault::Header => write_all(notes, b"pim: bad input: aiger header\n"),
+        AigerFault::Latches => write_all(notes, b"pim: bad input: aiger latches\n"),
+        AigerFault::Number(at) => {
+            write_counted(notes, b"pim: bad input: aiger number at byte ", *at)
+        }
+        AigerFault::Literal(at) => {
+            write_counted(notes, b"pim: bad input: aiger literal at byte ", *at)
+        }
+        AigerFault::Truncated(at) => {
+            write_counted(notes, b"pim: bad input: aiger truncated at byte ", *at)
+        }
+        AigerFault::Delta(at) => write_counted(notes, b"pim: bad input: aiger delta at byte ", *at),
+        AigerFault::Symbol(at) => {
+            write_counted(notes, b"pim: bad input: aiger symbol at byte ", *at)
+        }
+        AigerFault::Net(fault, names) => write_net(notes, fault, names),
+        AigerFault::TooLarge(_) => write_all(notes, b"pim: bad input: \n"),
+        AigerFault::NoMemory => write_all(notes, b"pim: bad input: \n"),
+    }
+}
+
+/// Writes the fault of a netlist with the labels of its signals.
+fn write_net<E: Sink>(notes: &mut E, fault: &NetFault, names: &Names) -> Result<(), SinkFault>
+    ensures whole { OnOk result (TookAll (E.taken notes.old) (E.taken notes.new)
+        (codes "pim: bad input: " ++ (net_detail fault.now names.now ++ codes "\n"))) }
+    ensures prefix { OnErr result (TookFirst (E.taken notes.old) (E.taken notes.new)
+        (codes "pim: bad input: " ++ (net_detail fault.now names.now ++ codes "\n"))) }
+    ensures counted { OnErr result (Rose (E.faults notes.old) (E.faults notes.new)) }
+{
+    match fault {
+        NetFault::Twice(signal) => write_line(
+            notes,
+            b"pim: bad input: driven twice ",
+            label_of(names, *signal),
+        ),
+        NetFault::Undriven(signal) => write_line(
+            notes,
+            b"pim: bad input: undriven ",
+            label_of(names, *signal),
+        ),
+        NetFault::Cycle(signals) => write_cycle(notes, signals.list(), names),
+        NetFault::NoMemory => write_all(notes, b"pim: bad input: \n"),
+    }
+}
+
+/// Writes that these signals are a cycle, with their labels.
+fn write_cycle<E: Sink>(notes: &mut E, signals: &[u32], names: &Names) -> Result<(), SinkFault>
+    ensures whole { OnOk result (TookAll (E.taken notes.old) (E.taken notes.new)
+        (codes "pim: bad input: cycle" ++ (cycle_labels names.now signals.now ++ codes "\n"))) }
+    ensures prefix { OnErr result (TookFirst (E.taken notes.old) (E.taken notes.new)
+        (codes "pim: bad input: cycle" ++ (cycle_labels names.now signals.now ++ codes "\n"))) }
+    ensures counted { OnErr result (Rose (E.faults notes.old) (E.faults notes.new)) }
+{
+    write_all(notes, b"pim: bad input: cycle")?;
+    write_labels(notes, signals, names)?;
+    Ok(())
+}
+
+/// Writes the labels of signals, each after a space, and a newline.
+fn write_labels<E: Sink>(notes: &mut E, signals: &[u32], names: &Names) -> Result<(), SinkFault>
+    ensures whole { OnOk result (TookAll (E.taken notes.old) (E.taken notes.new)
+        (cycle_labels names.now signals.now ++ codes "\n")) }
+    ensures prefix { OnErr result (TookFirst (E.taken notes.old) (E.taken notes.new)
+        (cycle_labels names.now signals.now ++ codes "\n")) }
+    ensures counted { OnErr result (Rose (E.faults notes.old) (E.faults notes.new)) }
+{
+    for signal in signals {
+        write_both(notes, b" ", label_of(names, *signal))?;
+    }
+    write_all(notes, b"\n")?;
+    Ok(())
+}
+
+/// Writes a text, a number in decimal and a newline.
+fn write_counted<E: Sink>(notes: &mut E, text: &[u8], number: u32) -> Result<(), SinkFault>
+    ensures whole { OnOk result (TookAll (E.taken notes.old) (E.taken notes.new)
+        (text.now ++ (decimal number ++ codes "\n"))) }
+    ensures prefix { OnErr result (TookFirst (E.taken notes.old) (E.taken notes.new)
+        (text.now ++ (decimal number ++ codes "\n"))) }
+    ensures counted { OnErr result (Rose (E.faults notes.old) (E.faults notes.new)) }
+{
+    let mut digits = Buffer::new();
+    write_line(notes, text, digits.format(number).as_bytes())
+}
+
+/// Writes two pieces and a newline.
+fn write_line<E: Sink>(notes: &mut E, first: &[u8], second: &[u8]) -> Result<(), SinkFault>
+    ensures whole { OnOk result (TookAll (E.taken notes.old) (E.taken notes.new)
+        (first.now ++ (second.now ++ codes "\n"))) }
+    ensures prefix { OnErr result (TookFirst (E.taken notes.old) (E.taken notes.new)
+        (first.now ++ (second.now ++ codes "\n"))) }
+    ensures counted { OnErr result (Rose (E.faults notes.old) (E.faults notes.new)) }
+{
+    write_all(notes, first)?;
+    write_both(notes, second, b"\n")?;
+    Ok(())
+}
+
+/// Writes two pieces.
+fn write_both<E: Sink>(notes: &mut E, first: &[u8], second: &[u8]) -> Result<(), SinkFault>
+    ensures whole { OnOk result (TookAll (E.taken notes.old) (E.taken notes.new) (first.now ++ second.now)) }
+    ensures prefix { OnErr result (TookFirst (E.taken notes.old) (E.taken notes.new) (first.now ++ second.now)) }
+    ensures counted { OnErr result (Rose (E.faults notes.old) (E.faults notes.new)) }
+    ensures never_falls { E.faults notes.old ≤ E.faults notes.new }
+{
+    write_all(notes, first)?;
+    write_all(notes, second)?;
+    Ok(())
+}
+
+/// The label of a signal, and nothing where there is none of that number.
+fn label_of(names: &Names, signal: u32) -> &[u8]
+    ensures { result.now ≡ label_of names.now signal }
+{
     match names.find(signal) {
-        Some(name) => write_all(notes, name),
-        None => Ok(()),
+        Some(label) => label,
+        None => b"",
+    }
+}
+
+/// The word for a limit.
+fn limit_word(limit: Limit) -> &'static [u8]
+    ensures { result.now ≡ limit_word limit }
+{
+    match limit {
+        Limit::Bytes => b"bytes",
+        Limit::Nodes => b"nodes",
+        Limit::Netlist(Kind::Signals) => b"signals",
+        Limit::Netlist(Kind::Outputs) => b"outputs",
+        Limit::Netlist(Kind::Name) => b"name",
     }
 }

@@ -1,15 +1,15 @@
 //! The call itself: words in, a status out, and everything that is read and written on the way.
-ghost use Rattle.std.specs.Prelude.{◌≡◌, ◌≢◌, ◌≤◌, length, map, true, false, IfErr, IfOk, OnOk, vec_len};
+ghost use Rattle.std.specs.Prelude.{◌≡◌, ◌≢◌, ◌⊎◌, ◌≤◌, ℕ, List, Some, length, map, true, false, IfErr, IfOk, OnOk, vec_len};
 ghost use Rattle.std.specs.String.{string_bytes};
 ghost use Rattle.pim_io.specs.Outside.{GaveAll, Rose};
 ghost use Rattle.pim_words.specs.Reading.{IsWithin, is_usage};
 ghost use Rattle.pim_top.specs.Compiled.{IsCut, IsDone, Writes};
-ghost use Rattle.pim_top.specs.Refusals.{budget_of, Explains, IsAlwaysExplained, IsExplained, IsRefused};
+ghost use Rattle.pim_top.specs.Refusals.{budget_of, Explains, IsAlwaysExplained, IsExplained, IsFine, IsRefused};
 ghost use Rattle.pim_top.specs.Statuses.{IsInner, status_of};
 
 use crate::Status;
 use crate::commands::compile;
-use crate::note::write_note;
+use crate::note::tell;
 use crate::refusal::{Limit, Refusal};
 use pim_compile::{Level, Target};
 use pim_io::{ReadAllFault, Sink, Source, read_all, write_all};
@@ -36,7 +36,9 @@ pub fn pim<P: Source, S: Source, K: Sink, E: Sink>(
         → IsDone (map string_bytes words.now) (S.left input.old) (S.left input.new) (K.taken output.old) (K.taken output.new) }
     ensures cut { result ≡ Status.WriteFault
         → IsCut (map string_bytes words.now) (S.left input.old) (S.left input.new) (K.taken output.old) (K.taken output.new) }
-    ensures refused { result ≢ Status.Done → IsRefused (map string_bytes words.now) (S.left input.old) (S.left input.new) result }
+    ensures refused { result ≢ Status.Done → IsRefused (map string_bytes words.now) (S.left input.old) (S.left input.new)
+        (E.taken notes.old) (E.taken notes.new) (E.faults notes.old) (E.faults notes.new) result }
+    ensures silent { result ≡ Status.Done → E.taken notes.new ≡ E.taken notes.old }
     ensures nothing { result ≢ Status.Done → result ≢ Status.WriteFault → K.taken output.new ≡ K.taken output.old }
 
     // Each fault of the outside was counted in this call.
@@ -44,11 +46,16 @@ pub fn pim<P: Source, S: Source, K: Sink, E: Sink>(
     ensures write_fault { result ≡ Status.WriteFault → Rose (K.faults output.old) (K.faults output.new) }
     ensures usage { result ≡ Status.Usage → is_usage (map string_bytes words.now) ≡ true }
     ensures accepted { result ≢ Status.Usage → result ≢ Status.NoMemory → is_usage (map string_bytes words.now) ≡ false }
+
+    // Words and bytes without a fault, and no fault of the outside, give the text or want of memory.
+    ensures complete { (bytes : List ℕ) → S.left input.old ≡ Some bytes → IsFine (map string_bytes words.now) bytes
+        → ¬ Rose (S.faults input.old) (S.faults input.new) → ¬ Rose (K.faults output.old) (K.faults output.new)
+        → (result ≡ Status.Done) ⊎ (result ≡ Status.NoMemory) }
 {
     match obey(alloc, words, input, output) {
         Ok(()) => Status::Done,
         Err(refusal) => {
-            let _ = write_note(&refusal, notes);
+            tell(&refusal, notes);
             refusal.status()
         }
     }
