@@ -1,6 +1,8 @@
 //! Every fault of an ASCII AIGER file once, with its note, and the names that symbols give.
 use crate::case::{AND_PROGRAM, Case, check};
 use pim_top::Status;
+use std::alloc::Global;
+use std::process::Abort;
 use std::test::Fail;
 
 const FIVE: &[&str] = &["compile", "--target", "magic", "--cells", "5"];
@@ -20,124 +22,176 @@ fn symbols_name_the_ports(rt: HostRuntime) -> Result<(), Fail> {
     )
 }
 
-#[test]
-fn faults_are_named(rt: HostRuntime) -> Result<(), Fail> {
-    let faults: [(&'static [u8], Status, &'static [u8]); 20] = [
-        (
-            b"aag 1\n",
-            Status::BadInput,
-            b"pim: bad input: aiger header\n",
-        ),
-        (
-            b"aag 4294967296 0 0 0 0\n",
-            Status::BadInput,
-            b"pim: bad input: aiger header\n",
-        ),
-        (
-            b"aag 1 1 0 0 0 1\n2\n",
-            Status::BadInput,
-            b"pim: bad input: aiger header\n",
-        ),
-        (
-            b"aag 1 1 0 1 1\n2\n2\n4 2 2\n",
-            Status::BadInput,
-            b"pim: bad input: aiger header\n",
-        ),
-        (
-            b"aag 1 1 1 0 0\n2\n",
-            Status::BadInput,
-            b"pim: bad input: aiger latches\n",
-        ),
-        (
-            b"aag 1 1 0 1 0\n2 2\n2\n",
-            Status::BadInput,
-            b"pim: bad input: aiger number at byte 14\n",
-        ),
-        (
-            b"aag 1 1 0 1 0\n2\n9\n",
-            Status::BadInput,
-            b"pim: bad input: aiger literal at byte 16\n",
-        ),
-        (
-            b"aag 1 1 0 1 0\n3\n2\n",
-            Status::BadInput,
-            b"pim: bad input: aiger literal at byte 14\n",
-        ),
-        (
-            b"aag 2 1 0 0 1\n2\n0 2 2\n",
-            Status::BadInput,
-            b"pim: bad input: aiger literal at byte 16\n",
-        ),
-        (
-            b"aag 1 1 0 1 0\n2\n2",
-            Status::BadInput,
-            b"pim: bad input: aiger truncated at byte 17\n",
-        ),
-        (
-            b"aag 1 1 0 1 0",
-            Status::BadInput,
-            b"pim: bad input: aiger truncated at byte 13\n",
-        ),
-        (
-            b"aag 1 1 0 1 0\n2\n2\nx0 a\n",
-            Status::BadInput,
-            b"pim: bad input: aiger symbol at byte 18\n",
-        ),
-        (
-            b"aag 1 1 0 1 0\n2\n2\ni1 a\n",
-            Status::BadInput,
-            b"pim: bad input: aiger symbol at byte 18\n",
-        ),
-        (
-            b"aag 1 1 0 1 0\n2\n2\ni0\n",
-            Status::BadInput,
-            b"pim: bad input: aiger symbol at byte 18\n",
-        ),
-        (
-            b"aag 2 2 0 1 0\n2\n2\n2\n",
-            Status::BadInput,
-            b"pim: bad input: driven twice v1\n",
-        ),
-        (
-            b"aag 2 1 0 1 0\n2\n4\n",
-            Status::BadInput,
-            b"pim: bad input: undriven v2\n",
-        ),
-        (
-            b"aag 1 0 0 1 1\n2\n2 2 2\n",
-            Status::BadInput,
-            b"pim: bad input: cycle v1\n",
-        ),
-        (
-            b"aag 2 0 0 1 2\n2\n2 4 4\n4 2 2\n",
-            Status::BadInput,
-            b"pim: bad input: cycle v1 v2\n",
-        ),
-        (
-            b"aag 4294967295 0 0 0 0\n",
-            Status::TooLarge,
-            b"pim: too large: signals\n",
-        ),
-        (
-            b"aag 1048575 0 0 1048577 0\n",
-            Status::TooLarge,
-            b"pim: too large: outputs\n",
-        ),
-    ];
-    for (input, status, note) in faults {
+/// One file of each, and the status and note that it has to give.
+fn check_faults(
+    rt: &impl Abort,
+    alloc: Global,
+    faults: &[(&'static [u8], Status, &'static [u8])],
+) -> Result<(), Fail> {
+    for fault in faults {
         check(
-            &rt,
-            rt.alloc(),
+            rt,
+            alloc,
             &Case {
                 words: FIVE,
-                input,
-                status,
+                input: fault.0,
+                status: fault.1,
                 output: b"",
-                note,
+                note: fault.2,
             },
         )?;
     }
     Ok(())
+}
+
+#[test]
+fn headers_are_judged(rt: HostRuntime) -> Result<(), Fail> {
+    check_faults(
+        &rt,
+        rt.alloc(),
+        &[
+            (
+                b"aag 1\n",
+                Status::BadInput,
+                b"pim: bad input: aiger header\n",
+            ),
+            (
+                b"aag 4294967296 0 0 0 0\n",
+                Status::BadInput,
+                b"pim: bad input: aiger header\n",
+            ),
+            (
+                b"aag 1 1 0 0 0 1\n2\n",
+                Status::BadInput,
+                b"pim: bad input: aiger header\n",
+            ),
+            (
+                b"aag 1 1 0 1 1\n2\n2\n4 2 2\n",
+                Status::BadInput,
+                b"pim: bad input: aiger header\n",
+            ),
+            (
+                b"aag 1 1 1 0 0\n2\n",
+                Status::BadInput,
+                b"pim: bad input: aiger latches\n",
+            ),
+        ],
+    )
+}
+
+#[test]
+fn body_lines_are_judged(rt: HostRuntime) -> Result<(), Fail> {
+    check_faults(
+        &rt,
+        rt.alloc(),
+        &[
+            (
+                b"aag 1 1 0 1 0\n2 2\n2\n",
+                Status::BadInput,
+                b"pim: bad input: aiger number at byte 14\n",
+            ),
+            (
+                b"aag 1 1 0 1 0\n2\n9\n",
+                Status::BadInput,
+                b"pim: bad input: aiger literal at byte 16\n",
+            ),
+            (
+                b"aag 1 1 0 1 0\n3\n2\n",
+                Status::BadInput,
+                b"pim: bad input: aiger literal at byte 14\n",
+            ),
+            (
+                b"aag 2 1 0 0 1\n2\n0 2 2\n",
+                Status::BadInput,
+                b"pim: bad input: aiger literal at byte 16\n",
+            ),
+            (
+                b"aag 1 1 0 1 0\n2\n2",
+                Status::BadInput,
+                b"pim: bad input: aiger truncated at byte 17\n",
+            ),
+            (
+                b"aag 1 1 0 1 0",
+                Status::BadInput,
+                b"pim: bad input: aiger truncated at byte 13\n",
+            ),
+        ],
+    )
+}
+
+#[test]
+fn symbols_are_judged(rt: HostRuntime) -> Result<(), Fail> {
+    check_faults(
+        &rt,
+        rt.alloc(),
+        &[
+            (
+                b"aag 1 1 0 1 0\n2\n2\nx0 a\n",
+                Status::BadInput,
+                b"pim: bad input: aiger symbol at byte 18\n",
+            ),
+            (
+                b"aag 1 1 0 1 0\n2\n2\ni1 a\n",
+                Status::BadInput,
+                b"pim: bad input: aiger symbol at byte 18\n",
+            ),
+            (
+                b"aag 1 1 0 1 0\n2\n2\ni0\n",
+                Status::BadInput,
+                b"pim: bad input: aiger symbol at byte 18\n",
+            ),
+        ],
+    )
+}
+
+#[test]
+fn netlists_are_judged(rt: HostRuntime) -> Result<(), Fail> {
+    check_faults(
+        &rt,
+        rt.alloc(),
+        &[
+            (
+                b"aag 2 2 0 1 0\n2\n2\n2\n",
+                Status::BadInput,
+                b"pim: bad input: driven twice v1\n",
+            ),
+            (
+                b"aag 2 1 0 1 0\n2\n4\n",
+                Status::BadInput,
+                b"pim: bad input: undriven v2\n",
+            ),
+            (
+                b"aag 1 0 0 1 1\n2\n2 2 2\n",
+                Status::BadInput,
+                b"pim: bad input: cycle v1\n",
+            ),
+            (
+                b"aag 2 0 0 1 2\n2\n2 4 4\n4 2 2\n",
+                Status::BadInput,
+                b"pim: bad input: cycle v1 v2\n",
+            ),
+        ],
+    )
+}
+
+#[test]
+fn limits_are_judged(rt: HostRuntime) -> Result<(), Fail> {
+    check_faults(
+        &rt,
+        rt.alloc(),
+        &[
+            (
+                b"aag 4294967295 0 0 0 0\n",
+                Status::TooLarge,
+                b"pim: too large: signals\n",
+            ),
+            (
+                b"aag 1048575 0 0 1048577 0\n",
+                Status::TooLarge,
+                b"pim: too large: outputs\n",
+            ),
+        ],
+    )
 }
 
 /// The AND in the binary form: its 18 bytes, every cut of them, and a gate whose difference is zero.

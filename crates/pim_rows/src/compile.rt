@@ -9,6 +9,22 @@ const FIVE: &[&str] = &["compile", "--target", "magic", "--cells", "5"];
 fn compiles(rt: HostRuntime) -> Result<(), Fail> {
     let cases = [
         Case {
+            words: &["compile", "--target", "magic", "--cells", "2"],
+            input: b"aag 0 0 0 1 0\n0\n",
+            status: Status::Done,
+            output: b"pim 1\ntarget magic\ncells 2\noutput 1 o0\ncycles 2\ninit 0 1\nnot 1 0\nend\n",
+            note: b"",
+        },
+        Case {
+            words: &[
+                "compile", "--target", "magic", "--cells", "1", "--level", "0",
+            ],
+            input: b"aag 0 0 0 1 0\n1\n",
+            status: Status::Done,
+            output: b"pim 1\ntarget magic\ncells 1\noutput 0 o0\ncycles 1\ninit 0\nend\n",
+            note: b"",
+        },
+        Case {
             words: FIVE,
             input: AND_NETLIST,
             status: Status::Done,

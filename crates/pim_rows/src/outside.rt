@@ -44,7 +44,7 @@ fn compile_and(
 
 #[test]
 fn a_failing_read_writes_nothing(rt: HostRuntime) -> Result<(), Fail> {
-    for k in [0, 1, 13, 26] {
+    for k in 0..27u64 {
         let ending = compile_and(rt.alloc(), &[k], &[], 4_096)?;
         assert_eq!(rt; ending.status, Status::ReadFault, "at read {k}");
         assert_eq!(rt; ending.output.as_slice(), b"".as_slice());
@@ -61,7 +61,7 @@ fn a_failing_read_writes_nothing(rt: HostRuntime) -> Result<(), Fail> {
 
 #[test]
 fn a_failing_write_leaves_a_prefix(rt: HostRuntime) -> Result<(), Fail> {
-    for k in [0usize, 1, 60, 110] {
+    for k in 0..111usize {
         let failing = compile_and(rt.alloc(), &[], &[k as u64], 4_096)?;
         let full = compile_and(rt.alloc(), &[], &[], k)?;
         for ending in [&failing, &full] {
@@ -92,5 +92,34 @@ fn failing_notes_change_nothing(rt: HostRuntime) -> Result<(), Fail> {
     assert_eq!(rt; status, Status::TooFewCells);
     assert_eq!(rt; output.bytes(), b"".as_slice());
     assert_eq!(rt; notes.bytes(), b"".as_slice());
+    Ok(())
+}
+
+/// Some bytes, all of them `#`.
+fn hashes(alloc: Global, count: usize) -> Result<Vec<u8>, Fail> {
+    let bytes = vec![in alloc; b'#'; count]?;
+    Ok(bytes)
+}
+
+#[test]
+fn one_byte_too_many(rt: HostRuntime) -> Result<(), Fail> {
+    let alloc = rt.alloc();
+    let words = words_of(alloc, FIVE)?;
+    let bytes = hashes(alloc, 67_108_865)?;
+    let mut program = MemSource::new(alloc, b"", 1, &[])?;
+    let mut input = MemSource::new(alloc, &bytes, 1_048_576, &[])?;
+    let mut output = MemSink::new(alloc, 4_096, 4_096, &[])?;
+    let mut notes = MemSink::new(alloc, 4_096, 4_096, &[])?;
+    let status = pim(
+        alloc,
+        &words,
+        &mut program,
+        &mut input,
+        &mut output,
+        &mut notes,
+    );
+    assert_eq!(rt; status, Status::TooLarge);
+    assert_eq!(rt; output.bytes(), b"".as_slice());
+    assert_eq!(rt; notes.bytes(), b"pim: too large: bytes\n".as_slice());
     Ok(())
 }
