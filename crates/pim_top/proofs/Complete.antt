@@ -49,6 +49,6 @@ complete words bytes left_now (refusal.TooLarge (limit.Netlist kind)) fine u rd 
     cc
 complete words bytes left_now (refusal.Aiger fault) fine u rd wr e =
     let said = explains words bytes left_now (refusal.Aiger fault) fine e in
-    let wrong = said.1.0 in
+    let wrong = said.1.0.0 in
     let right = fine.is_net in
     cc

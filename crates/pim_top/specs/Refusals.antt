@@ -36,6 +36,22 @@ aiger_refusal (aiger.Net net.NoMemory names) = refusal.NoMemory
 aiger_refusal (aiger.TooLarge kind) = refusal.TooLarge (limit.Netlist kind)
 aiger_refusal aiger.NoMemory = refusal.NoMemory
 
+-- a fault of the file itself, which is neither a limit nor want of memory
+abbrev pub IsFault : AigerFault → Type 0
+IsFault aiger.Header = Unit {0}
+IsFault aiger.Latches = Unit {0}
+IsFault (aiger.Number place) = Unit {0}
+IsFault (aiger.Literal place) = Unit {0}
+IsFault (aiger.Truncated place) = Unit {0}
+IsFault (aiger.Delta place) = Unit {0}
+IsFault (aiger.Symbol place) = Unit {0}
+IsFault (aiger.Net (net.Twice s) names) = Unit {0}
+IsFault (aiger.Net (net.Undriven s) names) = Unit {0}
+IsFault (aiger.Net (net.Cycle ss) names) = Unit {0}
+IsFault (aiger.Net net.NoMemory names) = ⊥
+IsFault (aiger.TooLarge kind) = ⊥
+IsFault aiger.NoMemory = ⊥
+
 -- the refusal of one of the compiler
 abbrev pub compile_refusal : Compiler → Refusal
 compile_refusal (compiler.TooFewCells needed) = refusal.TooFewCells needed
@@ -73,7 +89,7 @@ Explains bytes budget (refusal.TooFewCells needed) = NeedsMore bytes budget need
 Explains bytes budget (refusal.TooLarge limit.Bytes) = 67108864 < length bytes
 Explains bytes budget (refusal.TooLarge limit.Nodes) = HasTooManyNodes bytes
 Explains bytes budget (refusal.TooLarge (limit.Netlist kind)) = net_of bytes ≡ Err (aiger.TooLarge kind)
-Explains bytes budget (refusal.Aiger fault) = net_of bytes ≡ Err fault
+Explains bytes budget (refusal.Aiger fault) = (net_of bytes ≡ Err fault) × IsFault fault
 
 -- a refusal that judges the bytes that were read
 abbrev pub IsOfBytes : Refusal → Type 0
@@ -121,3 +137,13 @@ pub record IsFine (words : List (List ℕ)) (bytes : List ℕ) : Type 0 where
   pub draft : DraftView
   pub is_net : net_of bytes ≡ Ok draft
   pub enough : (net : NetView) → IsNet net → draft_of net ≡ draft → IsAccepted net (budget_of command)
+
+-- the words say a command, and the bytes are within the limit and have a fault
+pub record IsFaulty (words : List (List ℕ)) (bytes : List ℕ) : Type 0 where
+  pub command : Command
+  pub said : command_said words ≡ Some command
+  pub accepted : is_usage words ≡ false
+  pub fits : length bytes ≤ 67108864
+  pub fault : AigerFault
+  pub is_fault : net_of bytes ≡ Err fault
+  pub own : IsFault fault

@@ -4,7 +4,7 @@ ghost use Rattle.std.specs.String.{string_bytes};
 ghost use Rattle.pim_io.specs.Outside.{GaveAll, Rose};
 ghost use Rattle.pim_words.specs.Reading.{IsWithin, is_usage};
 ghost use Rattle.pim_top.specs.Compiled.{IsCut, IsDone, Writes};
-ghost use Rattle.pim_top.specs.Refusals.{budget_of, Explains, IsAlwaysExplained, IsExplained, IsFine, IsRefused};
+ghost use Rattle.pim_top.specs.Refusals.{budget_of, Explains, IsAlwaysExplained, IsExplained, IsFaulty, IsFine, IsRefused};
 ghost use Rattle.pim_top.specs.Statuses.{IsInner, status_of};
 
 use crate::Status;
@@ -46,6 +46,11 @@ pub fn pim<P: Source, S: Source, K: Sink, E: Sink>(
     ensures write_fault { result ≡ Status.WriteFault → Rose (K.faults output.old) (K.faults output.new) }
     ensures usage { result ≡ Status.Usage → is_usage (map string_bytes words.now) ≡ true }
     ensures accepted { result ≢ Status.Usage → result ≢ Status.NoMemory → is_usage (map string_bytes words.now) ≡ false }
+
+    // Bytes with a fault are a bad input, where the input and the output tell their bytes and no read failed.
+    ensures bad_input { (bytes before : List ℕ) → S.left input.old ≡ Some bytes → K.taken output.old ≡ Some before
+        → IsFaulty (map string_bytes words.now) bytes → ¬ Rose (S.faults input.old) (S.faults input.new)
+        → (result ≡ Status.BadInput) ⊎ (result ≡ Status.NoMemory) }
 
     // Words and bytes without a fault, and no fault of the outside, give the text or want of memory.
     ensures complete { (bytes : List ℕ) → S.left input.old ≡ Some bytes → IsFine (map string_bytes words.now) bytes
