@@ -1,6 +1,7 @@
 //! Every fault of an ASCII AIGER file once, with its note, and the names that symbols give.
-use crate::case::{AND_PROGRAM, Case, check};
-use pim_top::Status;
+use crate::case::{AND_PROGRAM, Case, check, words_of};
+use pim_io::{MemSink, MemSource};
+use pim_top::{Status, pim};
 use std::alloc::Global;
 use std::process::Abort;
 use std::test::Fail;
@@ -235,6 +236,42 @@ fn the_binary_form(rt: HostRuntime) -> Result<(), Fail> {
                 note,
             },
         )?;
+    }
+    Ok(())
+}
+
+/// A buffer whose input has a name of so many letters.
+fn named_buffer(alloc: Global, letters: usize) -> Result<Vec<u8>, Fail> {
+    let mut bytes = Vec::from_slice(alloc, b"aag 1 1 0 1 0\n2\n2\ni0 ")?;
+    let name = vec![in alloc; b'x'; letters]?;
+    bytes.extend_from_slice(&name)?;
+    bytes.push(b'\n')?;
+    Ok(bytes)
+}
+
+#[test]
+fn the_length_of_a_name_is_judged(rt: HostRuntime) -> Result<(), Fail> {
+    let alloc = rt.alloc();
+    for (letters, status) in [(4_096, Status::Done), (4_097, Status::TooLarge)] {
+        let words = words_of(alloc, FIVE)?;
+        let bytes = named_buffer(alloc, letters)?;
+        let mut program = MemSource::new(alloc, b"", 1, &[])?;
+        let mut input = MemSource::new(alloc, &bytes, 4_096, &[])?;
+        let mut output = MemSink::new(alloc, 65_536, 4_096, &[])?;
+        let mut notes = MemSink::new(alloc, 4_096, 4_096, &[])?;
+        let answer = pim(
+            alloc,
+            &words,
+            &mut program,
+            &mut input,
+            &mut output,
+            &mut notes,
+        );
+        assert_eq!(rt; answer, status, "at {letters} letters");
+        if answer == Status::TooLarge {
+            assert_eq!(rt; output.bytes(), b"".as_slice());
+            assert_eq!(rt; notes.bytes(), b"pim: too large: name\n".as_slice());
+        }
     }
     Ok(())
 }
