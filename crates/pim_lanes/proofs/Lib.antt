@@ -1,2 +1,5 @@
 pub mod BitLemmas
 pub mod RuleLemmas
+pub mod ColumnLemmas
+pub mod StepLemmas
+pub mod BankLemmas
