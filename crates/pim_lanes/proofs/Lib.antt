@@ -3,3 +3,4 @@ pub mod RuleLemmas
 pub mod ColumnLemmas
 pub mod StepLemmas
 pub mod BankLemmas
+mod Examples

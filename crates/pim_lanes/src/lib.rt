@@ -4,6 +4,8 @@
 mod bank;
 mod columns;
 mod kernels;
+#[cfg(test)]
+mod tests;
 
 pub use bank::Bank;
 pub use kernels::{nor1_into, nor2_into, ones_into, rm3_into};
