@@ -1,5 +1,5 @@
 -- The state after an answer.
-use Rattle.std.proofs.Common.{◌≡◌, ℕ, ◌+◌, ◌-◌, ◌≤◌, Bool, false, ◌&&◌, cond, eqb, ltb, List, [], ◌∷◌, ◌++◌, length, take, drop, Option, Some, None, Result, Ok, Err, refl, sym, ap, ◌∙◌, arith}
+use Rattle.std.proofs.Common.{◌≡◌, ℕ, ◌+◌, ◌-◌, ◌≤◌, ◌&&◌, cond, ltb, List, [], ◌∷◌, ◌++◌, length, take, drop, Option, Some, None, Result, Ok, Err, refl, sym, ap, ◌∙◌, arith}
 use Rattle.std.specs.Borrow.{Bor}
 use Rattle.std.proofs.lemmas.List.{length-append, length-drop, length-take, take-take, drop-take, drop-drop}
 use Rattle.pim_io.specs.Outside.{Told}
@@ -8,7 +8,7 @@ use Rattle.pim_vectors.specs.declared.fault.LinesFault.{LinesFault}
 use Rattle.pim_vectors.specs.declared.fault.LinesFault.TheVariants as faults
 use Rattle.pim_vectors.specs.declared.sizes.Sizes.{Sizes}
 use Rattle.pim_vectors.specs.Lines.{without_return, lines, line_len}
-use Rattle.pim_vectors.specs.Next.{LinesView, handed, ended, within_limit, next_of, lines_in, rest_after, CutsLines, NoNewline, Took, IsAfter, IsNext, IsEnd}
+use Rattle.pim_vectors.specs.Next.{LinesView, handed, ended, within_limit, next_of, NoNewline, Took, IsAfter, IsNext, IsEnd}
 use Rattle.pim_vectors.proofs.Taking.{line_len-none}
 use Rattle.pim_vectors.proofs.NextLemmas.{told_map, told_both}
 
@@ -22,8 +22,8 @@ unfolding next_of
 next_of-held v h bytes =
     let piece : List ℕ = within_limit v bytes in
     ap (λ (e : Result (Option (List ℕ)) LinesFault).
-      cond (ltb (line_len piece) (length piece)) (handed v (without_return (take (line_len piece) piece)))
-      (cond (ltb (length piece) (length bytes) && ltb (length piece) (v.longest + 2)) (Err faults.TooLong) e))
+    cond (ltb (line_len piece) (length piece)) (handed v (without_return (take (line_len piece) piece)))
+    (cond (ltb (length piece) (length bytes) && ltb (length piece) (v.longest + 2)) (Err faults.TooLong) e))
     (ended-held v h piece)
 
 next_of-took : (old v : LinesView) (a b : Option (List ℕ)) (bytes : List ℕ) → Took old a b v → next_of v bytes ≡ next_of old bytes
@@ -87,14 +87,14 @@ after_line old v new text a b s took next longest given place held text_is =
           (told_both a b _ _ took.bytes next.whole);
       place = told_map a b (λ x y. v.held ++ y ≡ old.held ++ x) (λ x y. new.place + length (new.held ++ y) ≡ old.place + length (old.held ++ x))
           (λ x y h.
-            omega (arith, place, took.place, within, ap length held, length-drop s.whole v.held, length-append new.held y, length-append v.held y, ap length h))
+          omega (arith, place, took.place, within, ap length held, length-drop s.whole v.held, length-append new.held y, length-append v.held y, ap length h))
           took.bytes;
       cut = told_map a b (λ x y. (v.held ++ y ≡ old.held ++ x) × (lines (v.held ++ y) ≡ take s.text v.held ∷ lines (drop s.whole v.held ++ y)))
           (λ x y. lines (old.held ++ x) ≡ (text.now ∷ []) ++ lines (new.held ++ y))
           (λ x y both.
-            ap lines (sym both.0) ∙ both.1
-            ∙ ap (λ (t : List ℕ). t ∷ lines (drop s.whole v.held ++ y)) (sym text_is)
-            ∙ ap (λ (l : List ℕ). text.now ∷ lines (l ++ y)) (sym held))
+          ap lines (sym both.0) ∙ both.1
+          ∙ ap (λ (t : List ℕ). t ∷ lines (drop s.whole v.held ++ y)) (sym text_is)
+          ∙ ap (λ (l : List ℕ). text.now ∷ lines (l ++ y)) (sym held))
           (told_both a b _ _ took.bytes next.cut);
       waits = λ h. cc;
     }

@@ -1,5 +1,5 @@
 -- Worked examples of the definitions, by computation.
-use Rattle.std.proofs.Common.{◌≡◌, ℕ, true, false, List, [], ◌∷◌, Some, None, Ok, Err, refl}
+use Rattle.std.proofs.Common.{◌≡◌, true, false, [], ◌∷◌, Some, None, Ok, Err, refl}
 use Rattle.pim_vectors.specs.declared.fault.LinesFault.TheVariants as faults
 use Rattle.pim_vectors.specs.Lines.{without_return, lines}
 use Rattle.pim_vectors.specs.Next.{LinesView, next_of}

@@ -1,9 +1,6 @@
-use Rattle.std.proofs.Common.{◌≡◌, ℕ, ◌+◌, ◌-◌, ◌≤◌, List, length, take, drop, Err, refl, sym, ap, ◌∙◌, arith}
-use Rattle.std.proofs.lemmas.List.{length-take}
+use Rattle.std.proofs.Common.{◌≡◌, ℕ, ◌+◌, ◌-◌, ◌≤◌, List, take, drop, Err, refl, ap, ◌∙◌, arith}
 use Rattle.std.proofs.lemmas.Result.{err_from_is_err_and}
-use Rattle.pim_vectors.specs.declared.limits.TheConstants.{MAX_BYTES}
 use Rattle.pim_vectors.specs.Next.{LinesView}
-use Rattle.pim_vectors.proofs.NextLemmas.{told_map}
 use Rattle.pim_vectors.proofs.AfterLemmas.{answer_before, answer_at_end, answer_of_line, whole_within, after_refused, after_end, after_line, held_cut, text_cut}
 use Rattle.pim_vectors.proofs.lines.Lines.next.Goals as goal
 
@@ -50,10 +47,14 @@ returns g c =
     let held : take (inside.end - inside.start) (drop inside.start items) ≡ v.held = ap (λ (u : LinesView). u.held) is in
     let within : inside.start + s.whole ≤ inside.end = whole_within v _ _ s items inside.start inside.end next held c.self.invariant.ordered in
     let text : take (inside.start + s.text - inside.start) (drop inside.start c.deref.result.now) ≡ take s.text v.held =
-      text_cut items c.deref.result.now inside.start inside.end s.text c.deref.ensures.value (omega (arith, next.short)) ∙ ap (take s.text) held in (
-      (refl, λ _. tt, after_line c.args.self.now v _ _ _ _ s sizes.took next
-        (ap (λ (u : LinesView). u.longest) is) (ap (λ (u : LinesView). u.given + 1) is) (ap (λ (u : LinesView). u.place + s.whole) is)
-        (held_cut items inside.start inside.end s.whole within ∙ ap (drop s.whole) held) text),
+    text_cut items c.deref.result.now inside.start inside.end s.text c.deref.ensures.value (omega (arith, next.short)) ∙ ap (take s.text) held in (
+      (
+        refl,
+        λ _. tt,
+        after_line c.args.self.now v _ _ _ _ s sizes.took next
+            (ap (λ (u : LinesView). u.longest) is) (ap (λ (u : LinesView). u.given + 1) is) (ap (λ (u : LinesView). u.place + s.whole) is)
+            (held_cut items inside.start inside.end s.whole within ∙ ap (drop s.whole) held) text,
+      ),
       record {
         line = answer_before _ _ _ _ _ sizes.took (answer_of_line v _ _ s _ next text);
         refused = tt;
