@@ -1,5 +1,5 @@
-ghost use Rattle.std.specs.Prelude.{◌≡◌, ℕ, ◌+◌, ◌*◌, ◌<◌, ◌≤◌, ◌==◌, if◌then◌else◌, false, length, replicate, IfOk};
-ghost use Rattle.pim_vectors.specs.Tiles.{column_of, row_of, IsRow, IsTile, IsVector, SameSizes, bits_of, line_of};
+ghost use Rattle.std.specs.Prelude.{◌≡◌, ℕ, ◌+◌, ◌*◌, ◌<◌, ◌≤◌, ◌==◌, if◌then◌else◌, false, length, replicate, slice_set, IfOk};
+ghost use Rattle.pim_vectors.specs.Tiles.{lane, column_of, row_of, IsRow, IsTile, IsVector, SameSizes, bits_of, line_of};
 
 use crate::rows;
 use pim_io::NoMemory;
@@ -66,5 +66,15 @@ impl Tile {
     {
         let start = k as usize * self.words;
         &self.buffer[start..start + self.words]
+    }
+
+    /// Writes the words of a column.
+    pub fn put_column(&mut self, k: u32, words: &[u64])
+        requires column { k < self.old.columns }
+        requires long { length words.now ≡ self.old.words }
+        ensures rows { (r : ℕ) → IsRow self.old r → row_of self.new r ≡ slice_set (row_of self.old r) k (lane words.now r) }
+        ensures sizes { SameSizes self.old self.new }
+    {
+        rows::put_column(&mut self.buffer, self.words, k as usize, words);
     }
 }
