@@ -106,7 +106,6 @@ nor_within b r t i fits = rw (length-row_of b r) (All-head (λ (c : ℕ). c < b.
 
 -- ---- a new bank
 lane-zeros : (w r : ℕ) → lane (replicate w 0) r ≡ false
-unfolding lane
 lane-zeros w r =
     elim (cases_lt (r / 64) w) [
       | inl within ↦ ap (λ (n : ℕ). is_set n (r % 64)) (get_or-replicate w (r / 64) 0 0 within) ∙ is_set-zero (r % 64)

@@ -8,19 +8,15 @@ use Rattle.pim_lanes.specs.Banks.{BankView, column_of, row_of, column_for}
 
 -- ---- lanes: 5 has the bits 0 and 2
 bit_two : is_set 5 2 ≡ true
-unfolding is_set
 bit_two = refl
 
 bit_one : is_set 5 1 ≡ false
-unfolding is_set
 bit_one = refl
 
 lane_of_the_second_word : lane (0 ∷ 5 ∷ []) 66 ≡ true
-unfolding lane is_set
 lane_of_the_second_word = refl
 
 lane_past_the_words : lane (5 ∷ []) 64 ≡ false
-unfolding lane is_set
 lane_past_the_words = refl
 
 -- ---- words: 12 is 1100, 10 is 1010, 6 is 0110
@@ -42,11 +38,11 @@ unfolding column_in
 second_column = refl
 
 first_row : row_of two_cells 0 ≡ true ∷ false ∷ []
-unfolding row_of column_in lane is_set
+unfolding row_of column_in
 first_row = refl
 
 third_row : row_of two_cells 2 ≡ true ∷ true ∷ []
-unfolding row_of column_in lane is_set
+unfolding row_of column_in
 third_row = refl
 
 zeros_column : column_of two_cells (column_for 2 operand.Zero) ≡ 0 ∷ []

@@ -10,11 +10,9 @@ use Rattle.pim_vectors.specs.Tiles.{TileView, is_set, lane, column_in, lane_at, 
 
 -- ---- one bit of a word
 pub is_set-shifted : (n i : ℕ) → eqb (bit_and (n / 2 ^ i) 1) 1 ≡ is_set n i
-unfolding is_set
 is_set-shifted n i = ap (λ (b : ℕ). eqb b 1) (shr_and_one n i)
 
 pub is_set-set : (n k i : ℕ) → k < 64 → is_set (bit_or n (1 * 2 ^ k % 2 ^ 64)) i ≡ cond (eqb i k) true (is_set n i)
-unfolding is_set
 is_set-set n k i within =
     elim (cases_eq i k) [
       | inl same ↦ rw (eq-eqb i k same) (ap (λ (j : ℕ). eqb (bit_at (bit_or n (1 * 2 ^ k % 2 ^ 64)) j) 1) same ∙ ap (λ (b : ℕ). eqb b 1) (bit_at_set_same w64 n k within))
@@ -22,7 +20,6 @@ is_set-set n k i within =
     ]
 
 pub is_set-clear : (n k i : ℕ) → k < 64 → i < 64 → is_set (bit_and n (2 ^ 64 - 1 - (1 * 2 ^ k % 2 ^ 64))) i ≡ cond (eqb i k) false (is_set n i)
-unfolding is_set
 is_set-clear n k i within small =
     elim (cases_eq i k) [
       | inl same ↦ rw (eq-eqb i k same) (ap (λ (j : ℕ). eqb (bit_at (bit_and n (2 ^ 64 - 1 - (1 * 2 ^ k % 2 ^ 64))) j) 1) same ∙ ap (λ (b : ℕ). eqb b 1) (bit_at_clear_same w64 n k within))
@@ -30,7 +27,6 @@ is_set-clear n k i within small =
     ]
 
 is_set-zero : (i : ℕ) → is_set 0 i ≡ false
-unfolding is_set
 is_set-zero i = ap (λ (b : ℕ). eqb b 1) (bit_at-zero i)
 
 -- ---- places of columns
@@ -53,7 +49,7 @@ same_column w c k i j p q e =
 
 -- a lane of a column's words
 pub lane-column : (w : ℕ) (buffer : List ℕ) (c r : ℕ) → r < 64 * w → lane (column_in w buffer c) r ≡ lane_at w buffer c r
-unfolding lane lane_at column_in
+unfolding column_in
 lane-column w buffer c r small =
     ap (λ (n : ℕ). is_set n (r % 64)) (get_or-take w (drop (c * w) buffer) (r / 64) 0 (omega arith) ∙ get_or-drop (c * w) buffer (r / 64) 0)
 
@@ -61,7 +57,6 @@ lane-column w buffer c r small =
 pub lane_at-set : (w : ℕ) (buffer : List ℕ) (k row word : ℕ) (b : Bool) → row < 64 * w → k * w + w ≤ length buffer →
     ((i : ℕ) → i < 64 → is_set word i ≡ cond (eqb i (row % 64)) b (is_set (get_or buffer (k * w + row / 64) 0) i)) →
     (c r : ℕ) → r < 64 * w → lane_at w (set buffer (k * w + row / 64) word) c r ≡ cond (eqb c k && eqb r row) b (lane_at w buffer c r)
-unfolding lane_at
 lane_at-set w buffer k row word b row_small within bits c r small = by_cases (cases_eq (c * w + r / 64) (k * w + row / 64))
   where
     at : ℕ
@@ -95,7 +90,7 @@ pub length-row_of : (t : TileView) (r : ℕ) → length (row_of t r) ≡ t.colum
 unfolding row_of
 length-row_of t r = length-map-range_with_len (λ (c : ℕ). lane (column_of t c) r) 0 t.columns
 
-get_or-row_of : (t : TileView) (r c : ℕ) → IsRow t r → c < t.columns → get_or (row_of t r) c false ≡ lane_at t.words t.buffer c r
+pub get_or-row_of : (t : TileView) (r c : ℕ) → IsRow t r → c < t.columns → get_or (row_of t r) c false ≡ lane_at t.words t.buffer c r
 unfolding row_of
 get_or-row_of t r c row small =
     get_or-map-range_with_len (λ (c : ℕ). lane (column_of t c) r) 0 t.columns c c false small (omega arith)
@@ -155,7 +150,6 @@ unpacked view t buffer n row is buffer_is =
 -- a new tile
 pub new_rows : (columns w : ℕ) (items : List ℕ) → items ≡ replicate (columns * w) 0 → (r : ℕ) → r < 64 * w →
     row_of (record { columns = columns; words = w; buffer = items }) r ≡ replicate columns false
-unfolding lane_at
 new_rows columns w items is r small =
     row_from_lanes (record { columns = columns; words = w; buffer = items }) r (replicate columns false) small (length-replicate columns false)
     (λ c within.
@@ -174,45 +168,49 @@ column_in_slice w xs c start e =
 -- a column was written
 pub lane_at-put : (w k : ℕ) (buffer new : List ℕ) (start : ℕ) → start ≡ k * w → k * w + w ≤ length buffer → length new ≡ w →
     (c r : ℕ) → r < 64 * w → lane_at w (take start buffer ++ (new ++ drop w (drop start buffer))) c r ≡ cond (eqb c k) (lane new r) (lane_at w buffer c r)
-unfolding lane_at lane
 lane_at-put w k buffer new start e within long c r small = by_cases (cases_eq c k)
   where
     i : ℕ
     i = r / 64
+
     front : List ℕ
     front = take start buffer
+
     back : List ℕ
     back = drop w (drop start buffer)
+
     front_len : length front ≡ k * w
     front_len = length-take-le start buffer (omega arith) ∙ e
+
     word : (c : ℕ) → ℕ
     word c = get_or (front ++ (new ++ back)) (c * w + i) 0
+
     by_cases : (c ≡ k) ⊎ (c ≢ k) → is_set (get_or (take start buffer ++ (new ++ drop w (drop start buffer))) (c * w + r / 64) 0) (r % 64)
         ≡ cond (eqb c k) (is_set (get_or new (r / 64) 0) (r % 64)) (is_set (get_or buffer (c * w + r / 64) 0) (r % 64))
     by_cases (inl same) =
         rw (eq-eqb c k same)
         (ap (λ (n : ℕ). is_set n (r % 64))
-          (ap (λ (n : ℕ). get_or (front ++ (new ++ back)) n 0) (ap (λ (n : ℕ). n * w + i) same ∙ ap (λ (n : ℕ). n + i) (sym front_len))
-          ∙ get_or-append-add front (new ++ back) i 0
-          ∙ get_or_append_left new back 0 i (omega arith)))
+        (ap (λ (n : ℕ). get_or (front ++ (new ++ back)) n 0) (ap (λ (n : ℕ). n * w + i) same ∙ ap (λ (n : ℕ). n + i) (sym front_len))
+        ∙ get_or-append-add front (new ++ back) i 0
+        ∙ get_or_append_left new back 0 i (omega arith)))
     by_cases (inr apart) =
         rw (ne_eqb c k apart)
         (ap (λ (n : ℕ). is_set n (r % 64))
-          (elim (cases_lt c k) [
-            | inl below ↦
-                let low : c * w + i < k * w = omega (arith, low_within w c k below) in
-                get_or_append_left front (new ++ back) 0 (c * w + i) (omega (arith, front_len)) ∙ get_or-take start buffer (c * w + i) 0 (omega arith)
-            | inr above ↦
-                let high : k * w + w ≤ c * w = low_within w k c (omega arith) in
-                let j : ℕ = c * w + i - (k * w + w) in
-                let place : c * w + i ≡ length front + (length new + j) = omega (arith, front_len) in
-                ap (λ (n : ℕ). get_or (front ++ (new ++ back)) n 0) place
-                ∙ get_or-append-add front (new ++ back) (length new + j) 0
-                ∙ get_or-append-add new back j 0
-                ∙ get_or-drop w (drop start buffer) j 0
-                ∙ get_or-drop start buffer (w + j) 0
-                ∙ ap (λ (n : ℕ). get_or buffer n 0) (omega arith)
-          ]))
+        (elim (cases_lt c k) [
+          | inl below ↦
+              let low : c * w + i < k * w = omega (arith, low_within w c k below) in
+              get_or_append_left front (new ++ back) 0 (c * w + i) (omega (arith, front_len)) ∙ get_or-take start buffer (c * w + i) 0 (omega arith)
+          | inr above ↦
+              let high : k * w + w ≤ c * w = low_within w k c (omega arith) in
+              let j : ℕ = c * w + i - (k * w + w) in
+              let place : c * w + i ≡ length front + (length new + j) = omega (arith, front_len) in
+              ap (λ (n : ℕ). get_or (front ++ (new ++ back)) n 0) place
+              ∙ get_or-append-add front (new ++ back) (length new + j) 0
+              ∙ get_or-append-add new back j 0
+              ∙ get_or-drop w (drop start buffer) j 0
+              ∙ get_or-drop start buffer (w + j) 0
+              ∙ ap (λ (n : ℕ). get_or buffer n 0) (omega arith)
+        ]))
 
 -- the rows after a column was written
 pub put_rows : (view t : TileView) (old new items : List ℕ) (k : ℕ) (column : List ℕ) → view ≡ t → items ≡ new → old ≡ view.buffer → k < t.columns →
@@ -221,15 +219,19 @@ pub put_rows : (view t : TileView) (old new items : List ℕ) (k : ℕ) (column 
 put_rows view t old new items k column is items_are old_is small lanes =
     let P : TileView → Type 0 = λ t. k < t.columns → (r : ℕ) → IsRow t r → row_of (record view { buffer = items }) r ≡ set (row_of t r) k (lane column r) in
     subst P is (λ small r row.
-      let m : List Bool = row_of view r in
-      let x : Bool = lane column r in
-      row_from_lanes (record view { buffer = items }) r (set m k x) row (length-set m k x ∙ length-row_of view r)
-      (λ c within.
-        ap (λ (l : List ℕ). lane_at view.words l c r) items_are ∙ lanes c r row
-        ∙ ap (λ (l : List ℕ). cond (eqb c k) x (lane_at view.words l c r)) old_is
-        ∙ elim (cases_eq c k) as (λ _. cond (eqb c k) x (lane_at view.words view.buffer c r) ≡ get_or (set m k x) c false) [
-          | inl same ↦
-              rw (eq-eqb c k same) (sym (ap (λ (n : ℕ). get_or (set m k x) n false) same ∙ get_or-set_same m k x false (omega (arith, length-row_of view r))))
-          | inr apart ↦
-              rw (ne_eqb c k apart) (sym (get_or-set_other m k c x false apart ∙ get_or-row_of view r c row within))
-        ])) small
+    let m : List Bool = row_of view r in
+    let x : Bool = lane column r in
+    row_from_lanes (record view { buffer = items }) r (set m k x) row (length-set m k x ∙ length-row_of view r)
+    (λ c within.
+    ap (λ (l : List ℕ). lane_at view.words l c r) items_are ∙ lanes c r row
+    ∙ ap (λ (l : List ℕ). cond (eqb c k) x (lane_at view.words l c r)) old_is
+    ∙ elim (cases_eq c k) as (λ _. cond (eqb c k) x (lane_at view.words view.buffer c r) ≡ get_or (set m k x) c false) [
+      | inl same ↦
+          rw (eq-eqb c k same) (sym (ap (λ (n : ℕ). get_or (set m k x) n false) same ∙ get_or-set_same m k x false (omega (arith, length-row_of view r))))
+      | inr apart ↦
+          rw (ne_eqb c k apart) (sym (get_or-set_other m k c x false apart ∙ get_or-row_of view r c row within))
+    ])) small
+
+-- a lane of a column is the bit of its row
+pub column_lanes : (t : TileView) (r c : ℕ) → IsRow t r → c < t.columns → lane (column_of t c) r ≡ get_or (row_of t r) c false
+column_lanes t r c row small = lane-column t.words t.buffer c r row ∙ sym (get_or-row_of t r c row small)

@@ -4,11 +4,11 @@ use Rattle.std.specs.List.{range_with_len}
 use Rattle.std.specs.Int.{bit_at}
 
 -- bit i of a word is one
-unfoldable pub is_set : ℕ → ℕ → Bool
+abbrev pub is_set : ℕ → ℕ → Bool
 is_set n i = bit_at n i == 1
 
 -- lane r of the words is bit r mod 64 of word r / 64, and false past them
-unfoldable pub lane : List ℕ → ℕ → Bool
+abbrev pub lane : List ℕ → ℕ → Bool
 lane words r = is_set (slice_index words (r / 64)) (r % 64)
 
 -- column c of columns of so many words that stand one after another
@@ -16,7 +16,7 @@ unfoldable pub column_in : ℕ → List ℕ → ℕ → List ℕ
 column_in words buffer c = take words (drop (c * words) buffer)
 
 -- lane r of column c in such a list
-unfoldable pub lane_at : ℕ → List ℕ → ℕ → ℕ → Bool
+abbrev pub lane_at : ℕ → List ℕ → ℕ → ℕ → Bool
 lane_at words buffer c r = is_set (slice_index buffer (c * words + r / 64)) (r % 64)
 
 -- the number of columns, the words of each, and the words of all, one column after another

@@ -1,4 +1,4 @@
-ghost use Rattle.std.specs.Prelude.{◌≡◌, ℕ, ◌+◌, ◌*◌, ◌<◌, ◌≤◌, ◌==◌, if◌then◌else◌, false, length, replicate, slice_set, IfOk};
+ghost use Rattle.std.specs.Prelude.{◌≡◌, ℕ, ◌+◌, ◌*◌, ◌<◌, ◌≤◌, ◌==◌, if◌then◌else◌, false, length, replicate, slice_index_or, slice_set, IfOk};
 ghost use Rattle.pim_vectors.specs.Tiles.{lane, column_of, row_of, IsRow, IsTile, IsVector, SameSizes, bits_of, line_of};
 
 use crate::rows;
@@ -63,6 +63,7 @@ impl Tile {
         requires { k < self.now.columns }
         ensures value { result.now ≡ column_of self.now k }
         ensures long { length result.now ≡ self.now.words }
+        ensures lanes { (r : ℕ) → IsRow self.now r → lane result.now r ≡ slice_index_or (row_of self.now r) k false }
     {
         let start = k as usize * self.words;
         &self.buffer[start..start + self.words]

@@ -4,7 +4,6 @@ use Rattle.pim_vectors.specs.Tiles.{lane_at, digit_of}
 use Rattle.pim_vectors.proofs.rows.unpack_row.Goals as goal
 
 pub loop-column-preserved : goal.loop-column-preserved
-unfolding lane_at
 loop-column-preserved c =
     let k = c.loop-column.column in
     let line = c.loop-column.line in
