@@ -119,23 +119,31 @@ column_in-replicate w n c x small =
     ap (take w) (drop-replicate (c * w) (n * w) x)
     ∙ take-replicate w (n * w - c * w) x (omega (arith, low_within w c n small))
 
--- the first columns were filled with a word
-pub filled_first : (w n x : ℕ) (ys rest : List ℕ) → ys ≡ replicate (n * w) x → (c : ℕ) → c < n → column_in w (ys ++ rest) c ≡ replicate w x
-filled_first w n x ys rest is c small =
-    column_in-low w ys rest c (omega (arith, low_within w c n small, ap length is, length-replicate {A = ℕ} (n * w) x))
-    ∙ ap (λ (l : List ℕ). column_in w l c) is
-    ∙ column_in-replicate w n c x small
+-- a column that was overwritten, and the others
+put_is : (w t start : ℕ) (old new : List ℕ) → put_mid start (start + w - start) old new ≡ take start old ++ (new ++ drop w (drop start old))
+put_is w t start old new =
+    let n : start + w - start ≡ w = omega arith in ap (λ (k : ℕ). take start old ++ (new ++ drop k (drop start old))) n
 
--- and the others stay
-pub filled_others : (w n : ℕ) (ys buffer : List ℕ) → length ys ≡ n * w → (c : ℕ) → n ≤ c →
-    column_in w (ys ++ drop (n * w) buffer) c ≡ column_in w buffer c
-unfolding column_in
-filled_others w n ys buffer long c high =
-    let d : ℕ = (c - n) * w in
-    let e : c * w ≡ n * w + d = ap (λ (m : ℕ). m * w) (omega arith) ∙ mul_add n (c - n) w in
-    ap (λ (m : ℕ). take w (drop m (ys ++ drop (n * w) buffer))) e
-    ∙ ap (take w) (sym (drop-drop d (n * w) (ys ++ drop (n * w) buffer)) ∙ ap (drop d) (drop_at ys (drop (n * w) buffer) (n * w) long) ∙ drop-drop d (n * w) buffer)
-    ∙ sym (ap (λ (m : ℕ). take w (drop m buffer)) e)
-  where
-    mul_add : (a b w : ℕ) → (a + b) * w ≡ a * w + b * w
-    mul_add a b w = omega arith
+pub put_target : (w t start : ℕ) (old new : List ℕ) → start ≡ t * w → t * w + w ≤ length old → length new ≡ w →
+    column_in w (put_mid start (start + w - start) old new) t ≡ new
+put_target w t start old new e within long =
+    ap (λ (l : List ℕ). column_in w l t) (put_is w t start old new)
+    ∙ column_in-middle w t (take start old) new (drop w (drop start old)) (length-take-le start old (omega arith) ∙ e) long
+
+pub put_others : (w t start : ℕ) (old new : List ℕ) → start ≡ t * w → t * w + w ≤ length old → length new ≡ w →
+    (c : ℕ) → c ≢ t → column_in w (put_mid start (start + w - start) old new) c ≡ column_in w old c
+put_others w t start old new e within long c apart =
+    let rest : List ℕ = drop start old in
+    let front : length (take start old) ≡ t * w = length-take-le start old (omega arith) ∙ e in
+    let middle : length (take w rest) ≡ w = length-take-le w rest (omega (arith, length-drop start old)) in
+    ap (λ (l : List ℕ). column_in w l c) (put_is w t start old new)
+    ∙ column_in-others w t c (take start old) (take w rest) new (drop w rest) front middle long apart
+    ∙ ap (λ (l : List ℕ). column_in w l c) (ap (λ (r : List ℕ). take start old ++ r) (take-append-drop w rest) ∙ take-append-drop start old)
+
+-- a column before the words that were written
+pub column_before : (w c start : ℕ) (old rest : List ℕ) → c * w + w ≤ start → start ≤ length old → column_in w (take start old ++ rest) c ≡ column_in w old c
+column_before w c start old rest low within =
+    let count : length (take start old) ≡ start = length-take-le start old within in
+    column_in-low w (take start old) rest c (omega arith)
+    ∙ sym (column_in-low w (take start old) (drop start old) c (omega arith))
+    ∙ ap (λ (l : List ℕ). column_in w l c) (take-append-drop start old)

@@ -4,7 +4,7 @@ use Rattle.pim_isa.specs.declared.instr.Operand.TheVariants as operand
 use Rattle.pim_lanes.specs.Lanes.{is_set, lane}
 use Rattle.pim_lanes.specs.Rules.{nor1_word, nor2_word, rm3_word}
 use Rattle.pim_lanes.specs.Columns.{column_in}
-use Rattle.pim_lanes.specs.Banks.{BankView, column_of, row_of, column_for}
+use Rattle.pim_lanes.specs.Banks.{BankView, column_of, column_at, row_of, place_of}
 
 -- ---- lanes: 5 has the bits 0 and 2
 bit_two : is_set 5 2 ≡ true
@@ -31,7 +31,7 @@ rm3_of_words = refl
 
 -- ---- a bank of two cells in rows of one word: cell 0 has 5, cell 1 has 6
 abbrev two_cells : BankView
-two_cells = record { cells = 2; words = 1; buffer = 5 ∷ 6 ∷ 0 ∷ 18446744073709551615 ∷ [] }
+two_cells = record { cells = 2; words = 1; buffer = 5 ∷ 6 ∷ [] }
 
 second_column : column_in 2 (1 ∷ 2 ∷ 3 ∷ 4 ∷ []) 1 ≡ 3 ∷ 4 ∷ []
 unfolding column_in
@@ -45,10 +45,12 @@ third_row : row_of two_cells 2 ≡ true ∷ true ∷ []
 unfolding row_of column_in
 third_row = refl
 
-zeros_column : column_of two_cells (column_for 2 operand.Zero) ≡ 0 ∷ []
-unfolding column_in
+zeros_column : column_of two_cells 2 ≡ 0 ∷ []
 zeros_column = refl
 
-ones_column : column_of two_cells (column_for 2 operand.One) ≡ 18446744073709551615 ∷ []
-unfolding column_in
+ones_column : column_of two_cells 3 ≡ 18446744073709551615 ∷ []
 ones_column = refl
+
+cell_operand : column_at two_cells (place_of (operand.Cell 1)) ≡ 6 ∷ []
+unfolding column_in
+cell_operand = refl

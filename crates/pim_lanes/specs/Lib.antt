@@ -2,3 +2,4 @@ pub mod Lanes
 pub mod Rules
 pub mod Columns
 pub mod Banks
+pub mod Lending

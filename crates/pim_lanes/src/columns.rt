@@ -1,4 +1,4 @@
-ghost use Rattle.std.specs.Prelude.{◌≡◌, ◌≢◌, ℕ, ◌+◌, ◌*◌, ◌<◌, ◌≤◌, ◌&&◌, ◌||◌, ◌++◌, not, true, List, length, replicate};
+ghost use Rattle.std.specs.Prelude.{◌≡◌, ◌≢◌, ℕ, ◌+◌, ◌-◌, ◌*◌, ◌<◌, ◌≤◌, ◌&&◌, ◌||◌, ◌++◌, not, true, List, length, drop, replicate};
 ghost use Rattle.pim_isa.specs.Steps.{majority};
 ghost use Rattle.pim_lanes.specs.Lanes.{lane};
 ghost use Rattle.pim_lanes.specs.Columns.{column_in, Stored};
@@ -24,15 +24,26 @@ pub(crate) fn put_column(buffer: &mut [u64], words: usize, t: usize, new: &[u64]
     buffer[start..start + words].copy_from_slice(new);
 }
 
-/// Writes a word all over the first columns.
-pub(crate) fn fill_columns(buffer: &mut [u64], words: usize, count: usize, word: u64)
-    requires { count * words ≤ length buffer.old }
+/// Writes a word all over one column.
+pub(crate) fn fill_column(buffer: &mut [u64], words: usize, t: usize, word: u64)
+    requires { t * words + words ≤ length buffer.old }
     ensures same { length buffer.new ≡ length buffer.old }
-    ensures first { (c : ℕ) → c < count → column_in words buffer.new c ≡ replicate words word }
-    ensures others { (c : ℕ) → count ≤ c → column_in words buffer.new c ≡ column_in words buffer.old c }
+    ensures target { column_in words buffer.new t ≡ replicate words word }
+    ensures others { (c : ℕ) → c ≢ t → column_in words buffer.new c ≡ column_in words buffer.old c }
 {
-    let end = count * words;
-    buffer[..end].fill(word);
+    let start = t * words;
+    buffer[start..start + words].fill(word);
+}
+
+/// Writes a word all over the columns from one on.
+pub(crate) fn fill_columns(buffer: &mut [u64], words: usize, first: usize, word: u64)
+    requires { first * words ≤ length buffer.old }
+    ensures same { length buffer.new ≡ length buffer.old }
+    ensures filled { drop (first * words) buffer.new ≡ replicate (length buffer.old - first * words) word }
+    ensures others { (c : ℕ) → c < first → column_in words buffer.new c ≡ column_in words buffer.old c }
+{
+    let start = first * words;
+    buffer[start..].fill(word);
 }
 
 /// Executes a NOR of column a in every lane of column t.
