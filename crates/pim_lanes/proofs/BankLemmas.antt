@@ -41,7 +41,7 @@ column_in-cells w items c =
     ap (take w) (drop-drop (c * w) (2 * w) items ∙ ap (λ (n : ℕ). drop n items) (sym e))
 
 -- a row has a new bit where a column was written
-row_stored : (b : BankView) (t : ℕ) (v : ℕ → Bool) (new : List ℕ) → t < b.cells → Stored b.words t v b.buffer new →
+pub row_stored : (b : BankView) (t : ℕ) (v : ℕ → Bool) (new : List ℕ) → t < b.cells → Stored b.words t v b.buffer new →
     (r : ℕ) → IsRow b r → row_of (record b { buffer = new }) r ≡ set (row_of b r) t (v r)
 row_stored b t v new small stored r row =
     let after : BankView = record b { buffer = new } in

@@ -3,4 +3,5 @@ pub mod RuleLemmas
 pub mod ColumnLemmas
 pub mod StepLemmas
 pub mod BankLemmas
+pub mod LendLemmas
 mod Examples
