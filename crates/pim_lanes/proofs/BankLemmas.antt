@@ -1,5 +1,5 @@
 -- The rows of a bank of which one column was written.
-use Rattle.std.proofs.Common.{◌≡◌, ◌≢◌, ℕ, zero, suc, ◌+◌, ◌-◌, ◌*◌, ◌/◌, ◌%◌, ◌^◌, ◌<◌, ◌≤◌, Bool, true, false, ◌||◌, not, cond, eqb, List, [], ◌∷◌, ◌++◌, length, set, take, drop, replicate, inl, inr, refl, sym, ap, subst, ◌∙◌, arith}
+use Rattle.std.proofs.Common.{◌≡◌, ◌≢◌, ℕ, zero, suc, ◌+◌, ◌-◌, ◌*◌, ◌/◌, ◌%◌, ◌^◌, ◌<◌, ◌≤◌, Bool, false, ◌||◌, not, cond, eqb, List, [], ◌∷◌, ◌++◌, length, set, take, drop, replicate, inl, inr, refl, sym, ap, subst, ◌∙◌, arith}
 use Rattle.std.specs.Prelude.{All}
 use Rattle.std.proofs.lemmas.Bool.{cases_eq, cases_lt, eqb-false, lt-ltb, le-ltb, eq-eqb, ne_eqb}
 use Rattle.std.proofs.lemmas.List.{length-set, length-replicate, ext_get_or, get_or-set_same, get_or-set_other, get_or-replicate, get_or_past, length-drop, drop-drop}
@@ -21,7 +21,7 @@ use Rattle.pim_lanes.specs.Columns.{column_in, Stored}
 use Rattle.pim_lanes.specs.Banks.{BankView, column_of, column_at, row_of, IsRow, IsBuffer, SameSizes, FitsCells, place_of, fill_word}
 use Rattle.pim_lanes.proofs.BitLemmas.{is_set-zero}
 use Rattle.pim_lanes.proofs.RuleLemmas.{lane-ones}
-use Rattle.pim_lanes.proofs.ColumnLemmas.{low_within, column_in-replicate}
+use Rattle.pim_lanes.proofs.ColumnLemmas.{column_in-replicate}
 use Rattle.pim_lanes.proofs.StepLemmas.{or_falses}
 
 pub length-row_of : (b : BankView) (r : ℕ) → length (row_of b r) ≡ b.cells
@@ -48,17 +48,17 @@ row_stored b t v new small stored r row =
     ext_get_or false (row_of after r) (set (row_of b r) t (v r))
     (length-row_of after r ∙ sym (length-row_of b r) ∙ sym (length-set (row_of b r) t (v r)))
     (λ c within.
-      let below : c < b.cells = omega (arith, length-row_of after r) in
-      bit-row_of after r c below ∙
-      elim (cases_eq c t) as (λ _. lane (column_in b.words new c) r ≡ bit (set (row_of b r) t (v r)) c) [
-        | inl same ↦
-            ap (λ (n : ℕ). lane (column_in b.words new n) r) same ∙ stored.target r row
-            ∙ sym (ap (λ (n : ℕ). bit (set (row_of b r) t (v r)) n) same
-            ∙ get_or-set_same (row_of b r) t (v r) false (omega (arith, length-row_of b r)))
-        | inr apart ↦
-            ap (λ (ws : List ℕ). lane ws r) (stored.others c apart)
-            ∙ sym (get_or-set_other (row_of b r) t c (v r) false apart ∙ bit-row_of b r c below)
-      ])
+    let below : c < b.cells = omega (arith, length-row_of after r) in
+    bit-row_of after r c below ∙
+    elim (cases_eq c t) as (λ _. lane (column_in b.words new c) r ≡ bit (set (row_of b r) t (v r)) c) [
+      | inl same ↦
+          ap (λ (n : ℕ). lane (column_in b.words new n) r) same ∙ stored.target r row
+          ∙ sym (ap (λ (n : ℕ). bit (set (row_of b r) t (v r)) n) same
+          ∙ get_or-set_same (row_of b r) t (v r) false (omega (arith, length-row_of b r)))
+      | inr apart ↦
+          ap (λ (ws : List ℕ). lane ws r) (stored.others c apart)
+          ∙ sym (get_or-set_other (row_of b r) t c (v r) false apart ∙ bit-row_of b r c below)
+    ])
 
 -- a column that was written among all is written among those of the cells
 stored_cells : (w t : ℕ) (v : ℕ → Bool) (old new : List ℕ) → Stored w (t + 2) v old new → Stored w t v (drop (2 * w) old) (drop (2 * w) new)
@@ -75,15 +75,15 @@ pub row_lanes : (v : List ℕ → ℕ → Bool) (view b : BankView) (t : ℕ) (b
 row_lanes v view b t before old new items is items_are old_is buffer_is =
     let w : ℕ = view.words in
     let P : BankView → Type 0 = λ b. t < b.cells → Stored w (t + 2) (v old) old new →
-        (r : ℕ) → IsRow b r → row_of (record view { buffer = drop (2 * w) items }) r ≡ set (row_of b r) t (v before r) in
+    (r : ℕ) → IsRow b r → row_of (record view { buffer = drop (2 * w) items }) r ≡ set (row_of b r) t (v before r) in
     subst P is (λ small stored r row.
-      let from : Stored w (t + 2) (v before) before new =
-        let Q : List ℕ → Type 0 = λ o. Stored w (t + 2) (v o) o new in subst Q old_is stored in
-      let cells : Stored w t (v before) view.buffer (drop (2 * w) new) =
-        let Q : List ℕ → Type 0 = λ o. Stored w t (v before) o (drop (2 * w) new) in
-        subst Q (sym buffer_is) (stored_cells w t (v before) before new from) in
-      ap (λ (l : List ℕ). row_of (record view { buffer = drop (2 * w) l }) r) items_are
-      ∙ row_stored view t (v before) (drop (2 * w) new) small cells r row)
+    let from : Stored w (t + 2) (v before) before new =
+    let Q : List ℕ → Type 0 = λ o. Stored w (t + 2) (v o) o new in subst Q old_is stored in
+    let cells : Stored w t (v before) view.buffer (drop (2 * w) new) =
+    let Q : List ℕ → Type 0 = λ o. Stored w t (v before) o (drop (2 * w) new) in
+    subst Q (sym buffer_is) (stored_cells w t (v before) before new from) in
+    ap (λ (l : List ℕ). row_of (record view { buffer = drop (2 * w) l }) r) items_are
+    ∙ row_stored view t (v before) (drop (2 * w) new) small cells r row)
 
 -- the lane of a cell's column among all is a bit of a row
 pub cell_lane : (view b : BankView) (before : List ℕ) (c r : ℕ) → view ≡ b → view.buffer ≡ drop (2 * view.words) before → c < b.cells →
@@ -91,8 +91,8 @@ pub cell_lane : (view b : BankView) (before : List ℕ) (c r : ℕ) → view ≡
 cell_lane view b before c r is buffer_is =
     let P : BankView → Type 0 = λ b. c < b.cells → lane (column_in view.words before (c + 2)) r ≡ bit (row_of b r) c in
     subst P is (λ small.
-      ap (λ (ws : List ℕ). lane ws r) (sym (column_in-cells view.words before c) ∙ ap (λ (l : List ℕ). column_in view.words l c) (sym buffer_is))
-      ∙ sym (bit-row_of view r c small))
+    ap (λ (ws : List ℕ). lane ws r) (sym (column_in-cells view.words before c) ∙ ap (λ (l : List ℕ). column_in view.words l c) (sym buffer_is))
+    ∙ sym (bit-row_of view r c small))
 
 -- the same where the lanes of columns of cells made the new ones
 pub row_by : (g : Bool → Bool → Bool → Bool) (view b : BankView) (t x y : ℕ) (before old new items : List ℕ) →
@@ -130,8 +130,8 @@ row_all : (b : BankView) (r : ℕ) (x : Bool) → ((c : ℕ) → c < b.cells →
 row_all b r x lanes =
     ext_get_or false (row_of b r) (replicate b.cells x) (length-row_of b r ∙ sym (length-replicate b.cells x))
     (λ c within.
-      let small : c < b.cells = omega (arith, length-row_of b r) in
-      bit-row_of b r c small ∙ lanes c small ∙ sym (get_or-replicate b.cells c x false small))
+    let small : c < b.cells = omega (arith, length-row_of b r) in
+    bit-row_of b r c small ∙ lanes c small ∙ sym (get_or-replicate b.cells c x false small))
 
 -- a list whose columns of cells are of one word
 pub filled_rows : (cells w : ℕ) (items : List ℕ) (word : ℕ) (x : Bool) → ((r : ℕ) → r < 64 * w → lane (replicate w word) r ≡ x) →
@@ -140,9 +140,9 @@ pub filled_rows : (cells w : ℕ) (items : List ℕ) (word : ℕ) (x : Bool) →
 filled_rows cells w items word x lanes is r row =
     row_all (record { cells = cells; words = w; buffer = drop (2 * w) items }) r x
     (λ c small.
-      ap (λ (l : List ℕ). lane (column_in w l c) r) is
-      ∙ ap (λ (ws : List ℕ). lane ws r) (column_in-replicate w cells c word small)
-      ∙ lanes r row)
+    ap (λ (l : List ℕ). lane (column_in w l c) r) is
+    ∙ ap (λ (ws : List ℕ). lane ws r) (column_in-replicate w cells c word small)
+    ∙ lanes r row)
 
 pub zero_lanes : (w r : ℕ) → r < 64 * w → lane (replicate w 0) r ≡ false
 zero_lanes w r row = lane-zeros w r
@@ -253,10 +253,10 @@ pub new_rows : (cells w : ℕ) (old new items : List ℕ) → items ≡ new → 
 new_rows cells w old new items items_are old_is others r =
     row_all (record { cells = cells; words = w; buffer = drop (2 * w) items }) r false
     (λ c small.
-      ap (λ (l : List ℕ). lane (column_in w (drop (2 * w) l) c) r) items_are
-      ∙ ap (λ (ws : List ℕ). lane ws r)
-        (column_in-cells w new c ∙ others (c + 2) (λ e. omega arith) ∙ ap (λ (l : List ℕ). column_in w l (c + 2)) old_is ∙ column_in-replicate w (cells + 2) (c + 2) 0 (omega arith))
-      ∙ lane-zeros w r)
+    ap (λ (l : List ℕ). lane (column_in w (drop (2 * w) l) c) r) items_are
+    ∙ ap (λ (ws : List ℕ). lane ws r)
+    (column_in-cells w new c ∙ others (c + 2) (λ e. omega arith) ∙ ap (λ (l : List ℕ). column_in w l (c + 2)) old_is ∙ column_in-replicate w (cells + 2) (c + 2) 0 (omega arith))
+    ∙ lane-zeros w r)
 
 -- ---- a bank that was filled
 pub fill_rows : (view b : BankView) (old new items : List ℕ) (word : ℕ) (x : Bool) → view ≡ b → items ≡ new → length old ≡ (view.cells + 2) * view.words →
@@ -268,7 +268,7 @@ fill_rows view b old new items word x is items_are long lanes filled =
     let count : length old - 2 * w ≡ view.cells * w = omega (arith, long) in
     let P : BankView → Type 0 = λ b. (r : ℕ) → IsRow b r → row_of (record view { buffer = drop (2 * w) items }) r ≡ replicate b.cells x in
     subst P is (filled_rows view.cells w items word x lanes
-      (ap (drop (2 * w)) items_are ∙ filled ∙ ap (λ (n : ℕ). replicate n word) count))
+    (ap (drop (2 * w)) items_are ∙ filled ∙ ap (λ (n : ℕ). replicate n word) count))
 
 -- ---- a column that is lent
 pub cell_column : (view b : BankView) (items : List ℕ) (c : ℕ) → view ≡ b → view.buffer ≡ drop (2 * view.words) items → c < b.cells →
@@ -276,23 +276,23 @@ pub cell_column : (view b : BankView) (items : List ℕ) (c : ℕ) → view ≡ 
 cell_column view b items c is buffer_is =
     let P : BankView → Type 0 = λ b. c < b.cells → column_in view.words items (c + 2) ≡ column_of b c in
     subst P is (λ small.
-      rw (lt-ltb c view.cells small)
-      (sym (column_in-cells view.words items c) ∙ ap (λ (l : List ℕ). column_in view.words l c) (sym buffer_is)))
+    rw (lt-ltb c view.cells small)
+    (sym (column_in-cells view.words items c) ∙ ap (λ (l : List ℕ). column_in view.words l c) (sym buffer_is)))
 
 pub constant_column : (view b : BankView) (items : List ℕ) (c : ℕ) → view ≡ b → IsBuffer view.cells view.words items → b.cells ≤ c → c < b.cells + 2 →
     column_in view.words items (c - b.cells) ≡ column_of b c
 constant_column view b items c is whole =
     let P : BankView → Type 0 = λ b. b.cells ≤ c → c < b.cells + 2 → column_in view.words items (c - b.cells) ≡ column_of b c in
     subst P is (λ high small.
-      rw (le-ltb c view.cells high)
-      (elim (cases_eq c view.cells) [
-        | inl first ↦
-            let e : c - view.cells ≡ 0 = omega arith in
-            rw (eq-eqb c view.cells first) (ap (column_in view.words items) e ∙ whole.zeros)
-        | inr second ↦
-            let e : c - view.cells ≡ 1 = omega arith in
-            rw (ne_eqb c view.cells second) (ap (column_in view.words items) e ∙ whole.ones)
-      ]))
+    rw (le-ltb c view.cells high)
+    (elim (cases_eq c view.cells) [
+      | inl first ↦
+          let e : c - view.cells ≡ 0 = omega arith in
+          rw (eq-eqb c view.cells first) (ap (column_in view.words items) e ∙ whole.zeros)
+      | inr second ↦
+          let e : c - view.cells ≡ 1 = omega arith in
+          rw (ne_eqb c view.cells second) (ap (column_in view.words items) e ∙ whole.ones)
+    ]))
 
 -- the lane of a cell's column is the bit of its row
 pub column_bit : (b : BankView) (c r : ℕ) → c < b.cells → lane (column_of b c) r ≡ bit (row_of b r) c

@@ -1,7 +1,7 @@
 -- Columns of words that stand one after another.
 use Rattle.std.proofs.Common.{◌≡◌, ◌≢◌, ℕ, ◌+◌, ◌-◌, ◌*◌, ◌<◌, ◌≤◌, Bool, inl, inr, List, ◌++◌, length, take, drop, replicate, refl, sym, ap, ◌∙◌, arith}
 use Rattle.std.proofs.lemmas.Bool.{cases_lt}
-use Rattle.std.proofs.lemmas.List.{length-append, length-drop, length-take-le, drop-append-le, take-append-le, take-append-drop, drop_at, drop-drop, take_at, drop-replicate, take-replicate, length-replicate}
+use Rattle.std.proofs.lemmas.List.{length-append, length-drop, length-take-le, drop-append-le, take-append-le, take-append-drop, drop_at, drop-drop, take_at, drop-replicate, take-replicate}
 use borrow.Rule.Slice.PartMut.{put_mid}
 use Rattle.pim_lanes.specs.Lanes.{lane}
 use Rattle.pim_lanes.specs.Columns.{column_in, Stored}

@@ -1,11 +1,10 @@
 -- A bank of which a cell's column was written through what it lent.
-use Rattle.std.proofs.Common.{◌≡◌, ◌≢◌, ℕ, ◌+◌, ◌-◌, ◌*◌, ◌<◌, ◌≤◌, Bool, true, List, ◌++◌, length, set, take, drop, cond, refl, sym, ap, subst, ◌∙◌, arith}
-use Rattle.std.proofs.lemmas.Bool.{lt-ltb}
+use Rattle.std.proofs.Common.{◌≡◌, ℕ, ◌+◌, ◌-◌, ◌*◌, ◌<◌, ◌≤◌, List, ◌++◌, length, set, take, drop, refl, sym, ap, subst, ◌∙◌, arith}
 use Rattle.std.proofs.lemmas.List.{length-append, length-drop, length-take-le, drop-append-le, take-append-le, take-append-drop, drop-take, drop-drop, take_all}
 use borrow.Rule.Slice.PartMut.{put_mid}
 use Rattle.pim_lanes.specs.Lanes.{lane}
 use Rattle.pim_lanes.specs.Columns.{column_in, Stored, with_words}
-use Rattle.pim_lanes.specs.Banks.{BankView, column_of, with_column, row_of, IsRow, IsBuffer}
+use Rattle.pim_lanes.specs.Banks.{BankView, with_column, row_of, IsRow, IsBuffer}
 use Rattle.pim_lanes.proofs.ColumnLemmas.{low_within, column_in-low, column_before, length-column_in, put_target, put_others}
 use Rattle.pim_lanes.proofs.BankLemmas.{row_stored}
 
@@ -15,8 +14,15 @@ wrote items start new = take start items ++ (new ++ drop (length new) (drop star
 
 wrote_long : (start : ℕ) (items new : List ℕ) → start ≤ length items → length items ≤ length (wrote items start new)
 wrote_long start items new within =
-    omega (arith, within, length-append (take start items) (new ++ drop (length new) (drop start items)), length-take-le start items within,
-      length-append new (drop (length new) (drop start items)), length-drop {A = ℕ} (length new) (drop start items), length-drop start items)
+    omega (
+      arith,
+      within,
+      length-append (take start items) (new ++ drop (length new) (drop start items)),
+      length-take-le start items within,
+      length-append new (drop (length new) (drop start items)),
+      length-drop {A = ℕ} (length new) (drop start items),
+      length-drop start items,
+    )
 
 pub words_written : (n start : ℕ) (items new : List ℕ) → n ≡ length items → start ≤ length items →
     let x : List ℕ = take start items ++ (new ++ drop (length new) (drop start items)) in
@@ -117,10 +123,18 @@ stored_words words c buffer column within long =
     let new : List ℕ = put_mid start (start + words - start) buffer column in
     let n : start + words - start ≡ length column = omega (arith, long) in
     let count : length (wrote buffer start column) ≡ length buffer =
-      omega (arith, within, long, length-append (take start buffer) (column ++ drop (length column) (drop start buffer)), length-take-le start buffer (omega arith),
-        length-append column (drop (length column) (drop start buffer)), length-drop {A = ℕ} (length column) (drop start buffer), length-drop start buffer) in
+    omega (
+      arith,
+      within,
+      long,
+      length-append (take start buffer) (column ++ drop (length column) (drop start buffer)),
+      length-take-le start buffer (omega arith),
+      length-append column (drop (length column) (drop start buffer)),
+      length-drop {A = ℕ} (length column) (drop start buffer),
+      length-drop start buffer,
+    ) in
     let same : with_words buffer start column ≡ new =
-      take_all (length buffer) (wrote buffer start column) (omega (arith, count)) ∙ sym (ap (λ (i : ℕ). take start buffer ++ (column ++ drop i (drop start buffer))) n) in
+    take_all (length buffer) (wrote buffer start column) (omega (arith, count)) ∙ sym (ap (λ (i : ℕ). take start buffer ++ (column ++ drop i (drop start buffer))) n) in
     record {
       same = length-with_words start buffer column (omega arith);
       target = λ r row. ap (λ (l : List ℕ). lane (column_in words l c) r) same ∙ ap (λ (ws : List ℕ). lane ws r) (put_target words c start buffer column refl within long);
@@ -132,8 +146,8 @@ pub with_column_rows : (view b : BankView) (items : List ℕ) (c : ℕ) (column 
     (r : ℕ) → IsRow b r → row_of (with_column b c column) r ≡ set (row_of b r) c (lane column r)
 with_column_rows view b items c column is buffer_is whole =
     let P : BankView → Type 0 = λ b. c < b.cells → length column ≡ b.words →
-        (r : ℕ) → IsRow b r → row_of (with_column b c column) r ≡ set (row_of b r) c (lane column r) in
+    (r : ℕ) → IsRow b r → row_of (with_column b c column) r ≡ set (row_of b r) c (lane column r) in
     subst P is (λ small long.
-      let within : c * view.words + view.words ≤ length view.buffer =
-        omega (arith, ap (λ (l : List ℕ). length l) buffer_is, length-drop (2 * view.words) items, whole.whole, low_within view.words c view.cells small) in
-      row_stored view c (lane column) (with_words view.buffer (c * view.words) column) small (stored_words view.words c view.buffer column within long))
+    let within : c * view.words + view.words ≤ length view.buffer =
+    omega (arith, ap (λ (l : List ℕ). length l) buffer_is, length-drop (2 * view.words) items, whole.whole, low_within view.words c view.cells small) in
+    row_stored view c (lane column) (with_words view.buffer (c * view.words) column) small (stored_words view.words c view.buffer column within long))

@@ -217,13 +217,7 @@ impl Bank {
             (majority (lane (column_at self.old p) r) (not (lane (column_at self.old q) r)) (bit (row_of self.old r) z)) }
         ensures sizes { SameSizes self.old self.new }
     {
-        columns::rm3_column(
-            &mut self.buffer,
-            self.words,
-            z as usize + 2,
-            p,
-            q,
-        );
+        columns::rm3_column(&mut self.buffer, self.words, z as usize + 2, p, q);
     }
 }
 

@@ -95,7 +95,7 @@ fn a_program_runs_in_every_row(rt: HostRuntime) -> Result<(), Fail> {
 #[test]
 fn instructions_take_each_kind_of_operand(rt: HostRuntime) -> Result<(), Fail> {
     let mut bank = Bank::new(rt.alloc(), 5, 1)?;
-    bank.put_column(0, &[1]);
+    bank.column_mut(0).copy_from_slice(&[1]);
     bank.put_column(1, &[2]);
     bank.put_column(2, &[4]);
     bank.put_column(3, &[8]);

@@ -1,4 +1,3 @@
-use Rattle.std.proofs.Common.{arith}
 use Rattle.pim_lanes.proofs.ColumnLemmas.{low_within, column_before}
 use Rattle.pim_lanes.proofs.columns.fill_columns.Goals as goal
 

@@ -1,4 +1,4 @@
-use Rattle.std.proofs.Common.{◌≡◌, ℕ, ◌+◌, ◌*◌, ◌<◌, List, length, refl, sym, subst, ap, ◌∙◌}
+use Rattle.std.proofs.Common.{ℕ, ◌+◌, ◌*◌, ◌<◌, List, length, refl, sym, subst, ap, ◌∙◌}
 use Rattle.pim_lanes.specs.Banks.{BankView, with_column}
 use Rattle.pim_lanes.proofs.ColumnLemmas.{column_in_slice}
 use Rattle.pim_lanes.proofs.BankLemmas.{cell_column}
@@ -23,8 +23,8 @@ returns c =
       (
         refl,
         λ w.
-          lent_view inside.cells inside.words inside.buffer.len k items w inside.buffer.ok.0 c.self.invariant small
-          ∙ ap (λ (t : BankView). with_column t k w) is,
+            lent_view inside.cells inside.words inside.buffer.len k items w inside.buffer.ok.0 c.self.invariant small
+            ∙ ap (λ (t : BankView). with_column t k w) is,
       ),
       record {
         lends = tt;
