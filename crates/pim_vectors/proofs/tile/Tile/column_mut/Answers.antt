@@ -1,5 +1,5 @@
-use Rattle.std.proofs.Common.{◌≡◌, ℕ, ◌*◌, ◌<◌, List, length, refl, sym, subst, ap, ◌∙◌}
-use Rattle.pim_vectors.specs.Tiles.{TileView, IsTile, column_of, with_words, with_column}
+use Rattle.std.proofs.Common.{ℕ, ◌*◌, ◌<◌, List, length, refl, sym, subst, ap, ◌∙◌}
+use Rattle.pim_vectors.specs.Tiles.{TileView, IsTile, column_of, with_column}
 use Rattle.pim_vectors.proofs.TileLemmas.{column_in_slice, words_written, length-column_of, column_start, with_column_rows}
 use Rattle.pim_vectors.proofs.tile.Tile.column_mut.Goals as goal
 
@@ -15,8 +15,8 @@ returns c =
       (
         refl,
         λ w.
-          words_written inside.columns inside.words inside.buffer.len start items w inside.buffer.ok.0 (column_start _ c.args.k c.self.invariant small)
-          ∙ ap (λ (t : TileView). with_column t c.args.k w) is,
+            words_written inside.columns inside.words inside.buffer.len start items w inside.buffer.ok.0 (column_start _ c.args.k c.self.invariant small)
+            ∙ ap (λ (t : TileView). with_column t c.args.k w) is,
       ),
       record {
         lends = tt;
