@@ -25,6 +25,7 @@ pub record TileView : Type 0 where
   pub words : ℕ
   pub buffer : List ℕ
 
+-- column c of a tile
 abbrev pub column_of : TileView → ℕ → List ℕ
 column_of t c = column_in t.words t.buffer c
 
@@ -63,9 +64,10 @@ IsVector inputs line = (length line ≡ inputs) × All (λ b. (b ≡ 48) ⊎ (b 
 abbrev pub bits_of : List ℕ → List Bool
 bits_of line = map (λ b. b == 49) line
 
--- the character of a bit, and the line of bits
+-- the character of a bit
 abbrev pub digit_of : Bool → ℕ
 digit_of bit = if bit then 49 else 48
 
+-- the line of bits
 abbrev pub line_of : List Bool → List ℕ
 line_of bits = map digit_of bits
