@@ -90,6 +90,16 @@ impl Bank {
         self.buffer.slice_mut(start..end)
     }
 
+    /// Writes the words of a cell's column.
+    pub fn put_column(&mut self, c: u32, words: &[u64])
+        requires cell { c < self.old.cells }
+        requires long { length words.now ≡ self.old.words }
+        ensures rows { (r : ℕ) → IsRow self.old r → row_of self.new r ≡ slice_set (row_of self.old r) c (lane words.now r) }
+        ensures sizes { SameSizes self.old self.new }
+    {
+        columns::put_column(&mut self.buffer, self.words, c as usize + 2, words);
+    }
+
     /// Executes one instruction in every row, as the machine does in one row. The cost is a kernel's for each cell that an
     /// Init names, one kernel for a NOR of one or two operands and for an RM3, and two kernels for other NORs.
     pub fn apply(&mut self, instr: &Instr)

@@ -14,6 +14,16 @@ pub(crate) fn set_column(buffer: &mut [u64], words: usize, t: usize)
     ones_into(&mut buffer[start..start + words]);
 }
 
+/// Writes the words of column t.
+pub(crate) fn put_column(buffer: &mut [u64], words: usize, t: usize, new: &[u64])
+    requires within { t * words + words ≤ length buffer.old }
+    requires long { length new.now ≡ words }
+    ensures { Stored words t (λ r. lane new.now r) buffer.old buffer.new }
+{
+    let start = t * words;
+    buffer[start..start + words].copy_from_slice(new);
+}
+
 /// Writes a word all over one column.
 pub(crate) fn fill_column(buffer: &mut [u64], words: usize, t: usize, word: u64)
     requires { t * words + words ≤ length buffer.old }

@@ -82,8 +82,8 @@ fn a_program_runs_in_every_row(rt: HostRuntime) -> Result<(), Fail> {
     let program = Program::new(and_draft(rt.alloc())?)?;
     let mut bank = Bank::new(rt.alloc(), 6, 2)?;
     bank.fill(Fill::Ones);
-    bank.column_mut(0).copy_from_slice(&[12, 0]);
-    bank.column_mut(1).copy_from_slice(&[10, u64::MAX]);
+    bank.put_column(0, &[12, 0]);
+    bank.put_column(1, &[10, u64::MAX]);
     bank.run(&program);
     assert_eq!(rt; bank.column(4), [8, 0].as_slice());
     assert_eq!(rt; bank.column(5), [u64::MAX, u64::MAX].as_slice());
@@ -96,16 +96,16 @@ fn a_program_runs_in_every_row(rt: HostRuntime) -> Result<(), Fail> {
 fn instructions_take_each_kind_of_operand(rt: HostRuntime) -> Result<(), Fail> {
     let mut bank = Bank::new(rt.alloc(), 5, 1)?;
     bank.column_mut(0).copy_from_slice(&[1]);
-    bank.column_mut(1).copy_from_slice(&[2]);
-    bank.column_mut(2).copy_from_slice(&[4]);
-    bank.column_mut(3).copy_from_slice(&[8]);
-    bank.column_mut(4).copy_from_slice(&[31]);
+    bank.put_column(1, &[2]);
+    bank.put_column(2, &[4]);
+    bank.put_column(3, &[8]);
+    bank.put_column(4, &[31]);
     bank.apply(&Instr::Nor {
         t: 4,
         ins: Ins::Three(0, 1, 2),
     });
     assert_eq!(rt; bank.column(4), [24].as_slice());
-    bank.column_mut(4).copy_from_slice(&[31]);
+    bank.put_column(4, &[31]);
     bank.apply(&Instr::Nor {
         t: 4,
         ins: Ins::Four(0, 1, 2, 3),

@@ -87,4 +87,14 @@ impl Tile {
         let end = start + self.words;
         self.buffer.slice_mut(start..end)
     }
+
+    /// Writes the words of a column.
+    pub fn put_column(&mut self, k: u32, words: &[u64])
+        requires column { k < self.old.columns }
+        requires long { length words.now ≡ self.old.words }
+        ensures rows { (r : ℕ) → IsRow self.old r → row_of self.new r ≡ slice_set (row_of self.old r) k (lane words.now r) }
+        ensures sizes { SameSizes self.old self.new }
+    {
+        rows::put_column(&mut self.buffer, self.words, k as usize, words);
+    }
 }
