@@ -18,7 +18,7 @@ use Rattle.pim_isa.specs.Steps.{bit, value, majority}
 use Rattle.pim_isa.specs.Results.{fill_bit}
 use Rattle.pim_lanes.specs.Lanes.{is_set, lane}
 use Rattle.pim_lanes.specs.Columns.{column_in, Stored}
-use Rattle.pim_lanes.specs.Banks.{BankView, column_of, column_at, row_of, IsRow, IsBuffer, SameSizes, FitsCells, place_of, fill_word}
+use Rattle.pim_lanes.specs.Banks.{BankView, column_of, column_at, row_of, IsRow, IsBuffer, SameFrame, FitsCells, place_of, fill_word}
 use Rattle.pim_lanes.proofs.BitLemmas.{is_set-zero}
 use Rattle.pim_lanes.proofs.RuleLemmas.{lane-ones}
 use Rattle.pim_lanes.proofs.ColumnLemmas.{column_in-replicate}
@@ -110,7 +110,7 @@ row_by g view b t x y before old new items is items_are old_is buffer_is t_small
     ∙ ap (λ (v : Bool). set m t (g (bit m t) (bit m x) v)) (cell_lane view b before y r is buffer_is y_small)
 
 -- ---- what stays
-pub row_later : (a b : BankView) (r : ℕ) → SameSizes a b → IsRow a r → IsRow b r
+pub row_later : (a b : BankView) (r : ℕ) → SameFrame a b → IsRow a r → IsRow b r
 row_later a b r same row = rw same.words row
 
 -- the target of a NOR lies in the row

@@ -45,7 +45,7 @@ pub record IsBuffer (cells words : ℕ) (buffer : List ℕ) : Type 0 where
   pub ones : column_in words buffer 1 ≡ replicate words (2 ^ 64 - 1)
 
 -- the sizes are as they were
-pub record SameSizes (old new : BankView) : Type 0 where
+pub record SameFrame (old new : BankView) : Type 0 where
   pub cells : new.cells ≡ old.cells
   pub words : new.words ≡ old.words
 

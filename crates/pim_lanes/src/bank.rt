@@ -2,7 +2,7 @@ ghost use Rattle.std.specs.Prelude.{◌≡◌, ◌≢◌, ℕ, ◌+◌, ◌-◌,
 ghost use Rattle.pim_isa.specs.Steps.{bit, majority, set_ones, step, exec};
 ghost use Rattle.pim_isa.specs.Results.{fill_bit};
 ghost use Rattle.pim_lanes.specs.Lanes.{lane};
-ghost use Rattle.pim_lanes.specs.Banks.{column_of, column_at, with_column, row_of, IsRow, SameSizes, FitsCells, place_of, fill_word};
+ghost use Rattle.pim_lanes.specs.Banks.{column_of, column_at, with_column, row_of, IsRow, SameFrame, FitsCells, place_of, fill_word};
 
 use crate::columns;
 use pim_io::NoMemory;
@@ -58,7 +58,7 @@ impl Bank {
     /// Fills all cells of all rows. Linear in the cells and words.
     pub fn fill(&mut self, fill: Fill)
         ensures rows { (r : ℕ) → IsRow self.old r → row_of self.new r ≡ replicate self.old.cells (fill_bit fill) }
-        ensures sizes { SameSizes self.old self.new }
+        ensures frame { SameFrame self.old self.new }
     {
         columns::fill_columns(&mut self.buffer, self.words, 2, fill_word(fill));
     }
@@ -95,7 +95,7 @@ impl Bank {
         requires cell { c < self.old.cells }
         requires long { length words.now ≡ self.old.words }
         ensures rows { (r : ℕ) → IsRow self.old r → row_of self.new r ≡ slice_set (row_of self.old r) c (lane words.now r) }
-        ensures sizes { SameSizes self.old self.new }
+        ensures frame { SameFrame self.old self.new }
     {
         columns::put_column(&mut self.buffer, self.words, c as usize + 2, words);
     }
@@ -105,7 +105,7 @@ impl Bank {
     pub fn apply(&mut self, instr: &Instr)
         requires { FitsCells self.old.cells instr.now }
         ensures rows { (r : ℕ) → IsRow self.old r → row_of self.new r ≡ step (row_of self.old r) instr.now }
-        ensures sizes { SameSizes self.old self.new }
+        ensures frame { SameFrame self.old self.new }
     {
         match instr {
             Instr::Init(cells) => self.init(cells.list()),
@@ -118,7 +118,7 @@ impl Bank {
     pub fn run(&mut self, program: &Program)
         requires { program.now.cells ≤ self.old.cells }
         ensures rows { (r : ℕ) → IsRow self.old r → row_of self.new r ≡ exec program.now.instrs (row_of self.old r) }
-        ensures sizes { SameSizes self.old self.new }
+        ensures frame { SameFrame self.old self.new }
     {
         for instr in program.instrs() {
             self.apply(instr);
@@ -129,7 +129,7 @@ impl Bank {
     fn init(&mut self, cells: &[u32])
         requires { All (λ c. c < self.old.cells) cells.now }
         ensures rows { (r : ℕ) → IsRow self.old r → row_of self.new r ≡ set_ones cells.now (row_of self.old r) }
-        ensures sizes { SameSizes self.old self.new }
+        ensures frame { SameFrame self.old self.new }
     {
         for cell in cells {
             self.set(*cell);
@@ -140,7 +140,7 @@ impl Bank {
     fn nor(&mut self, t: u32, ins: Ins)
         requires { FitsCells self.old.cells (Instr.Nor t ins) }
         ensures rows { (r : ℕ) → IsRow self.old r → row_of self.new r ≡ step (row_of self.old r) (Instr.Nor t ins) }
-        ensures sizes { SameSizes self.old self.new }
+        ensures frame { SameFrame self.old self.new }
     {
         match ins {
             Ins::One(a) => self.nor1(t, a),
@@ -160,7 +160,7 @@ impl Bank {
     fn rm3(&mut self, p: Operand, q: Operand, z: u32)
         requires { FitsCells self.old.cells (Instr.Rm3 p q z) }
         ensures rows { (r : ℕ) → IsRow self.old r → row_of self.new r ≡ step (row_of self.old r) (Instr.Rm3 p q z) }
-        ensures sizes { SameSizes self.old self.new }
+        ensures frame { SameFrame self.old self.new }
     {
         self.rm3_columns(place_of(p), place_of(q), z);
     }
@@ -169,7 +169,7 @@ impl Bank {
     fn set(&mut self, t: u32)
         requires { t < self.old.cells }
         ensures rows { (r : ℕ) → IsRow self.old r → row_of self.new r ≡ slice_set (row_of self.old r) t true }
-        ensures sizes { SameSizes self.old self.new }
+        ensures frame { SameFrame self.old self.new }
     {
         columns::set_column(&mut self.buffer, self.words, t as usize + 2);
     }
@@ -181,7 +181,7 @@ impl Bank {
         requires a_apart { a ≢ t }
         ensures rows { (r : ℕ) → IsRow self.old r → row_of self.new r ≡ slice_set (row_of self.old r) t
             (bit (row_of self.old r) t && not (bit (row_of self.old r) a)) }
-        ensures sizes { SameSizes self.old self.new }
+        ensures frame { SameFrame self.old self.new }
     {
         columns::nor1_column(&mut self.buffer, self.words, t as usize + 2, a as usize + 2);
     }
@@ -195,7 +195,7 @@ impl Bank {
         requires b_apart { b ≢ t }
         ensures rows { (r : ℕ) → IsRow self.old r → row_of self.new r ≡ slice_set (row_of self.old r) t
             (bit (row_of self.old r) t && not (bit (row_of self.old r) a || bit (row_of self.old r) b)) }
-        ensures sizes { SameSizes self.old self.new }
+        ensures frame { SameFrame self.old self.new }
     {
         columns::nor2_column(
             &mut self.buffer,
@@ -215,7 +215,7 @@ impl Bank {
         requires q_apart { q ≢ z + 2 }
         ensures rows { (r : ℕ) → IsRow self.old r → row_of self.new r ≡ slice_set (row_of self.old r) z
             (majority (lane (column_at self.old p) r) (not (lane (column_at self.old q) r)) (bit (row_of self.old r) z)) }
-        ensures sizes { SameSizes self.old self.new }
+        ensures frame { SameFrame self.old self.new }
     {
         columns::rm3_column(&mut self.buffer, self.words, z as usize + 2, p, q);
     }
