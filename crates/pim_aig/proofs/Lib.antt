@@ -1,3 +1,4 @@
+pub mod FlatCounts
 pub mod ChainValues
 pub mod CoverValues
 pub mod EquationValues

@@ -7,7 +7,8 @@ use Rattle.pim_net.specs.declared.fault.NetFault.TheVariants as net
 use Rattle.pim_aiger.specs.Files.{net_of}
 use Rattle.pim_aiger.specs.declared.fault.AigerFault.{AigerFault}
 use Rattle.pim_aiger.specs.declared.fault.AigerFault.TheVariants as aiger
-use Rattle.pim_compile.specs.Refusals.{IsAccepted, node_count, wide_need}
+use Rattle.pim_aig.specs.Flat.{ands}
+use Rattle.pim_compile.specs.Refusals.{IsAccepted, wide_need}
 use Rattle.pim_compile.specs.declared.refusal.Refusal.{Refusal as Compiler}
 use Rattle.pim_compile.specs.declared.refusal.Refusal.TheVariants as compiler
 use Rattle.pim_words.specs.Reading.{command_said, is_usage}
@@ -68,7 +69,7 @@ pub record NeedsMore (bytes : List ℕ) (budget needed : ℕ) : Type 0 where
   pub net : NetView
   pub checked : IsNet net
   pub is_net : net_of bytes ≡ Ok (draft_of net)
-  pub few : node_count net ≤ 1048576
+  pub few : ands net ≤ 1048576
   pub is_need : needed ≡ wide_need net
   pub more : budget < needed
 
@@ -77,7 +78,7 @@ pub record HasTooManyNodes (bytes : List ℕ) : Type 0 where
   pub net : NetView
   pub checked : IsNet net
   pub is_net : net_of bytes ≡ Ok (draft_of net)
-  pub many : 1048576 < node_count net
+  pub many : 1048576 < ands net
 
 -- what a refusal of `compile` says of the bytes of its input
 abbrev pub Explains : List ℕ → ℕ → Refusal → Type 0

@@ -2,6 +2,8 @@
 ghost use Rattle.std.specs.Prelude.{◌≡◌, ◌≢◌, ◌⊎◌, ◌≤◌, ℕ, List, Some, length, map, true, false, IfErr, IfOk, OnOk, vec_len};
 ghost use Rattle.std.specs.String.{string_bytes};
 ghost use Rattle.pim_io.specs.Outside.{GaveAll, Rose};
+ghost use Rattle.pim_words.specs.Plain.{IsPlain};
+ghost use Rattle.pim_words.specs.declared.command.Command.{Command};
 ghost use Rattle.pim_words.specs.Reading.{IsWithin, is_usage};
 ghost use Rattle.pim_top.specs.Compiled.{IsCut, IsDone, Writes};
 ghost use Rattle.pim_top.specs.Refusals.{budget_of, Explains, IsAlwaysExplained, IsExplained, IsFaulty, IsFine, IsRefused};
@@ -46,6 +48,7 @@ pub fn pim<P: Source, S: Source, K: Sink, E: Sink>(
     ensures write_fault { result ≡ Status.WriteFault → Rose (K.faults output.old) (K.faults output.new) }
     ensures usage { result ≡ Status.Usage → is_usage (map string_bytes words.now) ≡ true }
     ensures accepted { result ≢ Status.Usage → result ≢ Status.NoMemory → is_usage (map string_bytes words.now) ≡ false }
+    ensures plain { (command : Command) → IsPlain command (map string_bytes words.now) → result ≢ Status.Usage }
 
     // Bytes with a fault are a bad input, where the input and the output tell their bytes and no read failed.
     ensures bad_input { (bytes before : List ℕ) → S.left input.old ≡ Some bytes → K.taken output.old ≡ Some before
@@ -82,6 +85,7 @@ fn obey<S: Source, K: Sink>(
     ensures write_fault { IfErr result (λ refusal. status_of refusal ≡ Status.WriteFault → Rose (K.faults output.old) (K.faults output.new)) }
     ensures usage { IfErr result (λ refusal. status_of refusal ≡ Status.Usage → is_usage (map string_bytes words.now) ≡ true) }
     ensures accepted { IfErr result (λ refusal. status_of refusal ≢ Status.Usage → status_of refusal ≢ Status.NoMemory → is_usage (map string_bytes words.now) ≡ false) }
+    ensures plain { IfErr result (λ refusal. (command : Command) → IsPlain command (map string_bytes words.now) → status_of refusal ≢ Status.Usage) }
     ensures valid { OnOk result (is_usage (map string_bytes words.now) ≡ false) }
     ensures ends { IfErr result (λ refusal. status_of refusal ≢ Status.Done) }
     ensures explained { IfErr result (IsExplained (map string_bytes words.now) (S.left input.old) (S.left input.new)) }
