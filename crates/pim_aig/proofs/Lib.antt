@@ -7,3 +7,4 @@ pub mod Linking
 pub mod Rows
 pub mod SignalValues
 pub mod TableSteps
+mod Examples
