@@ -1,4 +1,5 @@
 pub mod Codes
+pub mod Lanes
 pub mod Lines
 pub mod Memory
 pub mod Names
