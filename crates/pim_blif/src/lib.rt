@@ -1,0 +1,3 @@
+//! The reader of BLIF, the Berkeley Logic Interchange Format, in this project's profile of its combinational part: bytes are
+//! cut into statements, their names are numbered by first appearance, and the covers make a netlist, or the first fault.
+#![tactic(auto)]
