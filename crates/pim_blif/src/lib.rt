@@ -1,3 +1,5 @@
 //! The reader of BLIF, the Berkeley Logic Interchange Format, in this project's profile of its combinational part: bytes are
 //! cut into statements, their names are numbered by first appearance, and the covers make a netlist, or the first fault.
 #![tactic(auto)]
+
+mod line;
