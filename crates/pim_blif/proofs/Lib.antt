@@ -1,2 +1,3 @@
 mod Examples
+mod FileExamples
 pub mod Places

@@ -2,4 +2,8 @@
 //! cut into statements, their names are numbered by first appearance, and the covers make a netlist, or the first fault.
 #![tactic(auto)]
 
+mod directive;
+mod fault;
 mod line;
+
+pub use fault::BlifFault;
