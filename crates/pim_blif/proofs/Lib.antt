@@ -1,3 +1,5 @@
 mod Examples
 mod FileExamples
+pub mod Joins
 pub mod Places
+pub mod Rooms

@@ -5,5 +5,6 @@
 mod directive;
 mod fault;
 mod line;
+mod statements;
 
 pub use fault::BlifFault;
