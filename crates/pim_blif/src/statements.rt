@@ -1,4 +1,4 @@
-ghost use Rattle.std.specs.Prelude.{◌≡◌, ◌+◌, ◌*◌, ◌<◌, ◌≤◌, ◌∷◌, [], None, length, All, IfOk, IfSome, MatchOption};
+ghost use Rattle.std.specs.Prelude.{◌≡◌, ◌+◌, ◌*◌, ◌<◌, ◌≤◌, ◌∷◌, [], None, length, All, ℕ, List, OnOk, IfOk, IfSome, MatchOption};
 ghost use Rattle.pim_io.specs.Lines.{lines, lines_left};
 ghost use Rattle.pim_blif.specs.Statements.{stated, statements_after};
 ghost use Rattle.pim_blif.specs.Reading.{texts, room, statements_left};
@@ -48,6 +48,7 @@ impl<'a> Statements<'a> {
             (λ line. statements_left self.old
             ≡ record { line = line; words = self.new.words } ∷ statements_left self.new)) }
         ensures some { IfOk result (λ next. IfSome next (λ line. 0 < length self.new.words)) }
+        ensures bytes { OnOk result (All (λ (word : List ℕ). 0 < length word) self.new.words) }
         ensures few { IfOk result (λ next.
             2 * length self.new.words + room self.new.lines ≤ room self.old.lines) }
     {
@@ -79,6 +80,7 @@ fn gather<'a>(scan: &mut Scan<'a>, words: &mut Vec<&'a [u8]>) -> Result<Option<u
         ≡ stated line (texts words.new.items) (statements_after None (lines_left scan.new)))) }
     ensures few { IfOk result (λ next.
         2 * length (texts words.new.items) + room (lines_left scan.new) ≤ room (lines_left scan.old)) }
+    ensures bytes { OnOk result (All (λ (word : List ℕ). 0 < length word) (texts words.new.items)) }
     ensures shorter { IfOk result (λ next. IfSome next (λ line. length scan.new.rest < length scan.old.rest)) }
 {
     words.clear();
