@@ -5,6 +5,7 @@
 mod directive;
 mod fault;
 mod line;
+mod row;
 mod statements;
 
 pub use fault::BlifFault;
