@@ -7,5 +7,6 @@ mod fault;
 mod line;
 mod row;
 mod statements;
+mod table;
 
 pub use fault::BlifFault;
