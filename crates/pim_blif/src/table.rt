@@ -78,3 +78,23 @@ impl<'a> NameTable<'a> {
         Ok(labels)
     }
 }
+
+#[cfg(test)]
+mod tests {
+    use super::*;
+    use std::test::Fail;
+
+    #[test]
+    fn names_are_numbered(rt: HostRuntime) -> Result<(), Fail> {
+        let mut table = NameTable::new(rt.alloc());
+        assert_eq!(rt; table.number(b"b")?, 0);
+        assert_eq!(rt; table.number(b"a\x07")?, 1);
+        assert_eq!(rt; table.number(b"b")?, 0);
+        assert_eq!(rt; table.find(b"a\x07"), Some(1));
+        assert_eq!(rt; table.find(b"c"), None);
+        assert_eq!(rt; table.len(), 2);
+        let labels = table.labels(rt.alloc())?;
+        assert_eq!(rt; labels.find(1), Some(b"a?".as_slice()));
+        Ok(())
+    }
+}
