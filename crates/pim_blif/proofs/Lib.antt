@@ -1,0 +1,6 @@
+mod Examples
+mod FileExamples
+pub mod Joins
+pub mod Numbers
+pub mod Places
+pub mod Rooms

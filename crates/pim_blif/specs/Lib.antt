@@ -1,0 +1,10 @@
+pub mod Covers
+pub mod Directives
+pub mod Files
+pub mod Judging
+pub mod Netlists
+pub mod Reading
+pub mod Rows
+pub mod Signals
+pub mod Statements
+pub mod Steps

@@ -1,0 +1,12 @@
+//! The reader of BLIF, the Berkeley Logic Interchange Format, in this project's profile of its combinational part: bytes are
+//! cut into statements, their names are numbered by first appearance, and the covers make a netlist, or the first fault.
+#![tactic(auto)]
+
+mod directive;
+mod fault;
+mod line;
+mod row;
+mod statements;
+mod table;
+
+pub use fault::BlifFault;
