@@ -114,12 +114,15 @@ first_value cover = if length cover.rows == 0 then None else Some cover.phase
 abbrev pub with_row : Equation → RowView → Equation
 with_row e row = record e { cover = record e.cover { rows = e.cover.rows ++ row.cells ∷ []; phase = row.value } }
 
+-- an equation with the row of a line with these words
+unfoldable pub with_row_at : ℕ → Equation → List (List ℕ) → Result Equation BlifFault
+with_row_at line e words =
+    row_at line (length e.cover.ins) (first_value e.cover) words >>= λ row. Ok (with_row e row)
+
 -- a row of the open cover; there is none to which it could belong where no cover is open
 abbrev pub row_of : ℕ → Known → Option Equation → List (List ℕ) → Result Known BlifFault
 row_of line k None words = Err (faults.Syntax line)
-row_of line k (Some e) words =
-    row_at line (length e.cover.ins) (first_value e.cover) words >>= λ row.
-    Ok (record k { cover = Some (with_row e row) })
+row_of line k (Some e) words = with_row_at line e words >>= λ e. Ok (record k { cover = Some e })
 
 -- a directive ends the cover that is open
 abbrev pub without_cover : Known → Known
@@ -130,29 +133,36 @@ without_cover k = record k {
 }
 
 -- a directive that is not supported, told by the label of its first 4,096 bytes
-abbrev pub unsupported : ℕ → List (List ℕ) → BlifFault
-unsupported line words = faults.Unsupported line (label (take 4096 (first_word words)))
+abbrev pub unsupported : ℕ → List ℕ → BlifFault
+unsupported line word = faults.Unsupported line (label (take 4096 word))
 
--- behind `.end` nothing may stand
-abbrev pub unless_ended : ℕ → Known → Result Known BlifFault
-unless_ended line k = if k.ended then Err (faults.Syntax line) else Ok k
+-- whether a statement may stand: `.model` stands before every other statement, and behind `.end` no other may stand
+abbrev pub allowed : ℕ → Known → List (List ℕ) → Option Directive → Result Known BlifFault
+allowed line k words (Some Model) = if k.started then Err (unsupported line (first_word words)) else Ok k
+allowed line k words d = if k.ended then Err (faults.Syntax line) else Ok k
 
--- the directives other than `.model`, before `.end`
+-- what is known behind a directive that may stand
 abbrev pub directed : ℕ → Known → List (List ℕ) → Directive → Result Known BlifFault
-directed line k words Model = Err (unsupported line words)
+directed line k words Model = Ok k
 directed line k words Inputs = each (with_input line) k (drop 1 words)
 directed line k words Outputs = each with_output k (drop 1 words)
 directed line k words Names = with_cover line k (drop 1 words)
 directed line k words End = Ok (record k { ended = true })
 directed line k words PassedOver = Ok k
-directed line k words Unsupported = Err (unsupported line words)
+directed line k words Unsupported = Err (unsupported line (first_word words))
 
--- what is known behind a statement, or its fault: `.model` may stand before every other statement alone
-abbrev pub judged_as : ℕ → Known → List (List ℕ) → Option Directive → Result Known BlifFault
-judged_as line k words None = unless_ended line k >>= λ k. row_of line k k.cover words
-judged_as line k words (Some Model) = if k.started then Err (unsupported line words) else Ok (without_cover k)
-judged_as line k words (Some d) = unless_ended line k >>= λ k. directed line (without_cover k) words d
+-- what is known behind a statement that may stand
+abbrev pub stated : ℕ → Known → List (List ℕ) → Option Directive → Result Known BlifFault
+stated line k words None = row_of line k k.cover words
+stated line k words (Some d) = directed line (without_cover k) words d
 
 -- what is known behind a statement of a line with these words, or its fault
 abbrev pub judged : Known → ℕ → List (List ℕ) → Result Known BlifFault
-judged k line words = judged_as line k words (directive_of (first_word words))
+judged k line words =
+    allowed line k words (directive_of (first_word words)) >>= λ k.
+    stated line k words (directive_of (first_word words))
+
+-- what is known behind further statements, or the fault of the first faulty one
+abbrev pub known_after : Known → List Statement → Result Known BlifFault
+known_after k [] = Ok k
+known_after k (s ∷ rest) = judged k s.line s.words >>= λ next. known_after next rest

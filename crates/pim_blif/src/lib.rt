@@ -2,11 +2,18 @@
 //! cut into statements, their names are numbered by first appearance, and the covers make a netlist, or the first fault.
 #![tactic(auto)]
 
+mod cover;
 mod directive;
 mod fault;
+mod file;
+mod inputs;
 mod line;
+mod reader;
 mod row;
+mod signals;
 mod statements;
 mod table;
+mod words;
 
 pub use fault::BlifFault;
+pub use file::read;
