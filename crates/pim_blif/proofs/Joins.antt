@@ -1,14 +1,16 @@
 -- How a line is joined to a statement, and how many words it has.
 use Rattle.std.proofs.Common.{◌≡◌, ℕ, ◌+◌, ◌-◌, ◌*◌, ◌<◌, ◌≤◌, Bool, true, false, List, [], ◌∷◌, ◌++◌, length, Option, Some, None, refl, ap, arith, cond, take, length-append}
-use Rattle.std.specs.Option.{MatchOption, unwrap_or}
-use Rattle.std.proofs.lemmas.Bool.Decides.{nat_tests}
+use Rattle.std.specs.Option.{MatchOption, unwrap_or, option_map}
 use Rattle.std.proofs.lemmas.List.{length-take}
 use Rattle.std.specs.List.{All, before_first, position_or_len, suffix_len}
 use Rattle.std.proofs.lemmas.List.Elements.{All-nil, All-cons, All-same, All-append}
 use Rattle.pim_io.specs.Lines.{LineView}
 use Rattle.pim_io.specs.Words.{is_blank, close, words_after, words}
 use Rattle.pim_blif.specs.Statements.{Statement, is_hash, content, goes_on, words_of, stated, statements_after}
-use Rattle.pim_blif.specs.Reading.{begun_in}
+
+-- a statement that was begun in a line, if one was, with its words so far
+abbrev pub begun_in : Option ℕ → List (List ℕ) → Option Statement
+begun_in line words = option_map (λ (number : ℕ). record { line = number; words = words }) line
 
 -- the statements of lines, where words stand before them in a line, if one was begun
 pub joins : (begun : Option ℕ) (before : List (List ℕ)) (line : LineView) (rest : List LineView) → MatchOption begun (before ≡ []) (λ _. Unit {0}) → statements_after (begun_in begun before) (line ∷ rest) ≡ cond (goes_on line.text) (statements_after (begun_in (Some (unwrap_or begun line.number)) (before ++ words_of line.text)) rest) (stated (unwrap_or begun line.number) (before ++ words_of line.text) (statements_after None rest))

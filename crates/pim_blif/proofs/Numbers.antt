@@ -1,5 +1,5 @@
 -- The numbers of names, as places in a list of slices, and the names once one is added.
-use Rattle.std.proofs.Common.{◌≡◌, ℕ, zero, suc, ◌+◌, ◌<◌, ◌≤◌, Bool, true, false, ◌||◌, not, cond, List, [], ◌∷◌, ◌++◌, length, Some, None, refl, ap, sym, ◌∙◌, arith, subst, get_or, eqb, ltb, length-append}
+use Rattle.std.proofs.Common.{◌≡◌, ℕ, suc, ◌+◌, ◌<◌, ◌≤◌, Bool, true, false, ◌||◌, not, cond, List, [], ◌∷◌, ◌++◌, length, Some, None, refl, ap, sym, ◌∙◌, arith, subst, get_or, eqb, ltb, length-append}
 use Rattle.std.specs.Borrow.{Bor}
 use Rattle.std.specs.List.{All, list_any, position, position_or_len}
 use Rattle.std.specs.Str.{bytes_eq}
@@ -57,20 +57,19 @@ known_place keys name =
     rw (number_of_place keys name, count) refl
 
 -- names that are labels, and not too many, stay so once one is added
-pub kept : (names after : List (List ℕ)) (name : List ℕ) → after ≡ with_name names name → All (λ (n : List ℕ). (0 < length n) × (length n ≤ 4096)) names → length names ≤ 1048576 → (0 < length name) × (length name ≤ 4096) → number_of names name < 1048576 → All (λ (n : List ℕ). (0 < length n) × (length n ≤ 4096)) after × (length after ≤ 1048576)
+pub kept : (names after : List (List ℕ)) (name : List ℕ) → after ≡ with_name names name → All IsLabel names → length names ≤ 1048576 → IsLabel name → number_of names name < 1048576 → All IsLabel after × (length after ≤ 1048576)
 kept names after name e labels few label room = by (is_known names name) refl e
   where
-    by : (b : Bool) → is_known names name ≡ b → after ≡ cond b names (names ++ name ∷ []) → All (λ (n : List ℕ). (0 < length n) × (length n ≤ 4096)) after × (length after ≤ 1048576)
-    by true known same = (All-same (λ (n : List ℕ). (0 < length n) × (length n ≤ 4096)) after names same labels, omega (arith, ap length same))
+    by : (b : Bool) → is_known names name ≡ b → after ≡ cond b names (names ++ name ∷ []) → All IsLabel after × (length after ≤ 1048576)
+    by true known same = (All-same IsLabel after names same labels, omega (arith, ap length same))
     by false new same =
         let count : length names ≤ number_of names name = grind (arith, nat_tests) in
-        (All-same (λ (n : List ℕ). (0 < length n) × (length n ≤ 4096)) after (names ++ name ∷ []) same (All-push (λ (n : List ℕ). (0 < length n) × (length n ≤ 4096)) names name labels label), omega (arith, ap length same, length-append names (name ∷ [])))
+        (All-same IsLabel after (names ++ name ∷ []) same (All-push IsLabel names name labels label), omega (arith, ap length same, length-append names (name ∷ [])))
 
 -- each of these slices is a label
-pub label_at : (keys items : List (Bor (List ℕ))) (i : ℕ) (d : Bor (List ℕ)) → items ≡ keys → All (λ (n : List ℕ). (0 < length n) × (length n ≤ 4096)) (texts keys) → i < length items → (0 < length (get_or items i d).now) × (length (get_or items i d).now ≤ 4096)
+pub label_at : (keys items : List (Bor (List ℕ))) (i : ℕ) (d : Bor (List ℕ)) → items ≡ keys → All IsLabel (texts keys) → i < length items → IsLabel (get_or items i d).now
 label_at keys items i d same labels l =
     let count : length (texts keys) ≡ length keys = length-map keys (λ (slice : Bor (List ℕ)). slice.now) in
     let within : i < length keys = omega (arith, ap length same) in
     let at : get_or (texts keys) i d.now ≡ (get_or keys i d).now = get_or-map (λ (slice : Bor (List ℕ)). slice.now) keys i d d.now within in
-    let IsName : List ℕ → Type 0 = λ n. (0 < length n) × (length n ≤ 4096) in
-    rw same (subst IsName at (labels i d.now (omega arith)))
+    rw same (subst IsLabel at (labels i d.now (omega arith)))

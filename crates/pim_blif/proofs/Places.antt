@@ -1,5 +1,5 @@
 -- The first place at which a test passes, where none does.
-use Rattle.std.proofs.Common.{◌≡◌, ◌≤◌, Bool, List, length, None, arith}
+use Rattle.std.proofs.Common.{◌≡◌, Bool, List, length, None, arith}
 use Rattle.std.specs.List.{position, position_or_len}
 use Rattle.std.proofs.lemmas.Bool.Decides.{nat_tests}
 use Rattle.std.proofs.lemmas.List.Sums.{prefix_len-le-length}

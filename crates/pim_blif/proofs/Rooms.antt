@@ -1,6 +1,6 @@
 -- How many bytes lines take, and which words stand as a statement.
-use Rattle.std.proofs.Common.{◌≡◌, ℕ, ◌+◌, ◌<◌, ◌≤◌, Bool, true, false, List, [], ◌∷◌, ◌++◌, length, refl, arith, cond, length-append}
-use Rattle.pim_io.specs.Lines.{LineView, is_newline, lines_after, lines}
+use Rattle.std.proofs.Common.{◌≡◌, ℕ, ◌+◌, ◌<◌, ◌≤◌, true, false, List, [], ◌∷◌, ◌++◌, length, refl, arith, cond, length-append}
+use Rattle.pim_io.specs.Lines.{is_newline, lines_after, lines}
 use Rattle.pim_blif.specs.Statements.{Statement, stated}
 use Rattle.pim_blif.specs.Reading.{room}
 

@@ -1,5 +1,5 @@
 -- What a walk over statements holds and has left.
-use Rattle.std.specs.Prelude.{ℕ, ◌+◌, List, [], ◌∷◌, length, map, Option, Some, None, option_map}
+use Rattle.std.specs.Prelude.{ℕ, ◌+◌, List, [], ◌∷◌, length, map, None}
 use Rattle.std.specs.Borrow.{Bor}
 use Rattle.pim_io.specs.Lines.{LineView}
 use Rattle.pim_blif.specs.Statements.{Statement, statements_after}
@@ -21,7 +21,3 @@ statements_left walk = statements_after None walk.lines
 abbrev pub room : List LineView → ℕ
 room [] = 0
 room (line ∷ lines) = length line.text + 1 + room lines
-
--- a statement that was begun in a line, if one was, with its words so far
-abbrev pub begun_in : Option ℕ → List (List ℕ) → Option Statement
-begun_in line words = option_map (λ (number : ℕ). record { line = number; words = words }) line

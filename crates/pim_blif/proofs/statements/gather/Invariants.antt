@@ -3,7 +3,8 @@ use Rattle.std.specs.List.{All}
 use Rattle.std.specs.Option.{MatchOption}
 use Rattle.pim_io.specs.Lines.{lines_left}
 use Rattle.pim_blif.specs.Statements.{statements_after}
-use Rattle.pim_blif.specs.Reading.{texts, room, begun_in}
+use Rattle.pim_blif.specs.Reading.{texts, room}
+use Rattle.pim_blif.proofs.Joins.{begun_in}
 use Rattle.pim_blif.proofs.statements.gather.Given as goal
 
 abbrev pub invariant-loop-line : goal.invariant-loop-line

@@ -1,5 +1,4 @@
-use Rattle.std.proofs.Common.{◌≡◌, ℕ, List, map, take}
-use Rattle.std.specs.Borrow.{Bor}
+use Rattle.std.proofs.Common.{◌≡◌, map, take}
 use Rattle.pim_io.specs.Names.{label}
 use Rattle.pim_blif.specs.Reading.{texts}
 use Rattle.pim_blif.proofs.table.NameTable.labels.Given as goal

@@ -1,8 +1,6 @@
-use Rattle.std.proofs.Common.{◌≡◌, ◌≤◌, ◌<◌, ℕ, List, length, arith, ap, sym, ◌∙◌, subst}
+use Rattle.std.proofs.Common.{◌≡◌, ◌≤◌, ◌<◌, ℕ, List, length, arith, ap, sym, ◌∙◌}
 use Rattle.std.specs.Borrow.{Bor}
-use Rattle.std.specs.List.{All}
 use Rattle.std.proofs.lemmas.List.{length-map}
-use Rattle.pim_net.specs.Labels.{IsLabel}
 use Rattle.pim_blif.specs.Reading.{texts}
 use Rattle.pim_blif.specs.Signals.{number_of, with_name}
 use Rattle.pim_blif.proofs.Numbers.{number_of_place, inserted, kept}
