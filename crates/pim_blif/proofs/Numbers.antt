@@ -7,7 +7,7 @@ use Rattle.std.proofs.lemmas.Bool.Decides.{nat_tests}
 use Rattle.std.proofs.lemmas.List.{map-append, length-map, get_or-map}
 use Rattle.std.proofs.lemmas.List.Elements.{All-same, All-push}
 use Rattle.indexmap.specs.IndexSet.{insert_key}
-use Rattle.pim_net.specs.Labels.{IsLabel}
+use Rattle.pim_net.specs.Labels.{IsName}
 use Rattle.pim_blif.specs.Reading.{texts}
 use Rattle.pim_blif.specs.Signals.{number_of, is_known, with_name}
 
@@ -57,19 +57,19 @@ known_place keys name =
     rw (number_of_place keys name, count) refl
 
 -- names that are labels, and not too many, stay so once one is added
-pub kept : (names after : List (List ℕ)) (name : List ℕ) → after ≡ with_name names name → All IsLabel names → length names ≤ 1048576 → IsLabel name → number_of names name < 1048576 → All IsLabel after × (length after ≤ 1048576)
+pub kept : (names after : List (List ℕ)) (name : List ℕ) → after ≡ with_name names name → All IsName names → length names ≤ 1048576 → IsName name → number_of names name < 1048576 → All IsName after × (length after ≤ 1048576)
 kept names after name e labels few label room = by (is_known names name) refl e
   where
-    by : (b : Bool) → is_known names name ≡ b → after ≡ cond b names (names ++ name ∷ []) → All IsLabel after × (length after ≤ 1048576)
-    by true known same = (All-same IsLabel after names same labels, omega (arith, ap length same))
+    by : (b : Bool) → is_known names name ≡ b → after ≡ cond b names (names ++ name ∷ []) → All IsName after × (length after ≤ 1048576)
+    by true known same = (All-same IsName after names same labels, omega (arith, ap length same))
     by false new same =
         let count : length names ≤ number_of names name = grind (arith, nat_tests) in
-        (All-same IsLabel after (names ++ name ∷ []) same (All-push IsLabel names name labels label), omega (arith, ap length same, length-append names (name ∷ [])))
+        (All-same IsName after (names ++ name ∷ []) same (All-push IsName names name labels label), omega (arith, ap length same, length-append names (name ∷ [])))
 
 -- each of these slices is a label
-pub label_at : (keys items : List (Bor (List ℕ))) (i : ℕ) (d : Bor (List ℕ)) → items ≡ keys → All IsLabel (texts keys) → i < length items → IsLabel (get_or items i d).now
+pub label_at : (keys items : List (Bor (List ℕ))) (i : ℕ) (d : Bor (List ℕ)) → items ≡ keys → All IsName (texts keys) → i < length items → IsName (get_or items i d).now
 label_at keys items i d same labels l =
     let count : length (texts keys) ≡ length keys = length-map keys (λ (slice : Bor (List ℕ)). slice.now) in
     let within : i < length keys = omega (arith, ap length same) in
     let at : get_or (texts keys) i d.now ≡ (get_or keys i d).now = get_or-map (λ (slice : Bor (List ℕ)). slice.now) keys i d d.now within in
-    rw same (subst IsLabel at (labels i d.now (omega arith)))
+    rw same (subst IsName at (labels i d.now (omega arith)))

@@ -1,5 +1,5 @@
 ghost use Rattle.std.specs.Prelude.{◌≡◌, ◌<◌, ℕ, List, All, length, IfOk, OnOk};
-ghost use Rattle.pim_net.specs.Labels.{IsLabel};
+ghost use Rattle.pim_net.specs.Labels.{IsName};
 ghost use Rattle.pim_blif.specs.Reading.{texts};
 ghost use Rattle.pim_blif.specs.Signals.{number_of};
 ghost use Rattle.pim_blif.specs.Judging.{named, numbered};
@@ -18,7 +18,7 @@ pub(crate) fn signal<'a>(names: &mut NameTable<'a>, name: &'a [u8]) -> Result<u3
     ensures exact { Gives (λ _. names.new) result (named names.old name.now) }
     ensures number { IfOk result (λ sig. sig ≡ number_of names.old name.now) }
     ensures below { IfOk result (λ sig. sig < 1048576) }
-    ensures labelled { OnOk result (IsLabel name.now) }
+    ensures labelled { OnOk result (IsName name.now) }
 {
     if name.len() > 4096 {
         return Err(BlifFault::TooLarge(Kind::Name));

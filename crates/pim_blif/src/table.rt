@@ -1,6 +1,6 @@
 ghost use Rattle.std.specs.Prelude.{◌≡◌, ◌<◌, ◌≤◌, [], length, map, nat_lt, None, Some, IfOk, OnOk, OnErr, if◌then◌else◌};
 ghost use Rattle.pim_io.specs.Names.{label};
-ghost use Rattle.pim_net.specs.Labels.{IsLabel};
+ghost use Rattle.pim_net.specs.Labels.{IsName};
 ghost use Rattle.pim_blif.specs.Signals.{number_of, is_known, with_name};
 
 use indexmap::IndexSet;
@@ -18,14 +18,14 @@ pub(crate) struct NameTable<'a> {
 
 impl<'a> Model for NameTable<'a> {
     ghost use Rattle.std.specs.Prelude.{ℕ, ◌≤◌, List, All, length};
-    ghost use Rattle.pim_net.specs.Labels.{IsLabel};
+    ghost use Rattle.pim_net.specs.Labels.{IsName};
     ghost use Rattle.pim_blif.specs.Reading.{texts};
 
     ghost Value = { List (List ℕ) };
 
     ghost view = { λ t. texts t.names.keys };
 
-    ghost invariant = { λ t. All IsLabel (texts t.names.keys) × (length t.names.keys ≤ 1048576) };
+    ghost invariant = { λ t. All IsName (texts t.names.keys) × (length t.names.keys ≤ 1048576) };
 }
 
 impl<'a> NameTable<'a> {
@@ -57,7 +57,7 @@ impl<'a> NameTable<'a> {
     /// The number of a name of 1 to 4,096 bytes, which is appended where it is new. Expected constant time, beside the length
     /// of the name. After a refusal the names are as before.
     pub(crate) fn number(&mut self, name: &'a [u8]) -> Result<u32, NoMemory>
-        requires labelled { IsLabel name.now }
+        requires labelled { IsName name.now }
         requires room { number_of self.old name.now < 1048576 }
         ensures number { IfOk result (λ number. number ≡ number_of self.old name.now) }
         ensures names { OnOk result (self.new ≡ with_name self.old name.now) }
