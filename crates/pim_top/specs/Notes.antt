@@ -55,7 +55,7 @@ aiger_detail aiger.NoMemory = []
 -- what is wrong with a BLIF file
 abbrev pub blif_detail : BlifFault → List ℕ
 blif_detail (blif.Syntax line) = codes "blif line " ++ decimal line ++ codes ": syntax"
-blif_detail (blif.Unsupported line name) = codes "blif line " ++ decimal line ++ codes ": unsupported " ++ name
+blif_detail (blif.Unsupported line name) = codes "blif line " ++ (decimal line ++ (codes ": unsupported " ++ name))
 blif_detail (blif.RowWidth line) = codes "blif line " ++ decimal line ++ codes ": row width"
 blif_detail (blif.MixedPhase line) = codes "blif line " ++ decimal line ++ codes ": mixed phase"
 blif_detail (blif.TwiceInput line) = codes "blif line " ++ decimal line ++ codes ": input twice"

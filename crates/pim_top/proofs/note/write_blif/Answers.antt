@@ -37,7 +37,7 @@ pub returns-in-NoMemory-clause-prefix : goal.returns-in-NoMemory-clause-prefix
 returns-in-NoMemory-clause-prefix g c = rw c.in-NoMemory.is c.write_all-in-NoMemory.ensures.prefix
 
 pub returns-in-Unsupported-clause-whole : goal.returns-in-Unsupported-clause-whole
-returns-in-Unsupported-clause-whole g c = rw c.in-Unsupported.is (rw (← c.bytes.ensures.value) c.write_unsupported.ensures.whole)
+returns-in-Unsupported-clause-whole g c = rw (c.in-Unsupported.is, ← c.bytes.ensures.value) c.write_unsupported.ensures.whole
 
 pub returns-in-Unsupported-clause-prefix : goal.returns-in-Unsupported-clause-prefix
-returns-in-Unsupported-clause-prefix g c = rw c.in-Unsupported.is (rw (← c.bytes.ensures.value) c.write_unsupported.ensures.prefix)
+returns-in-Unsupported-clause-prefix g c = rw (c.in-Unsupported.is, ← c.bytes.ensures.value) c.write_unsupported.ensures.prefix
