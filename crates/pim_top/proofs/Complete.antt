@@ -1,8 +1,8 @@
 -- What words and bytes without a fault come to.
-use Rattle.std.proofs.Common.{◌≡◌, ℕ, List, Option, Some, None, true, refl, arith}
+use Rattle.std.proofs.Common.{◌≡◌, ℕ, List, Option, Some, None, true, inl, inr, refl, arith}
 use Rattle.std.specs.Prelude.{Ok}
 use Rattle.pim_net.specs.Netlist.{DraftView, NetView, draft_of}
-use Rattle.pim_aiger.specs.Files.{net_of}
+use Rattle.pim_top.specs.Netlists.{net_of}
 use Rattle.pim_words.specs.Reading.{is_usage}
 use Rattle.pim_top.specs.Refusals.{IsExplained, IsFine, NeedsMore, HasTooManyNodes, budget_of, Refuses}
 use Rattle.pim_top.specs.Statuses.{status_of}
@@ -44,11 +44,9 @@ complete words bytes left_now (refusal.TooLarge limit.Nodes) fine u rd wr e =
     absurd (omega (arith, enough.few, many.many))
 complete words bytes left_now (refusal.TooLarge (limit.Netlist kind)) fine u rd wr e =
     let said = explains words bytes left_now (refusal.TooLarge (limit.Netlist kind)) fine e in
-    let wrong = said.1.0 in
-    let right = fine.is_net in
-    cc
-complete words bytes left_now (refusal.Aiger fault) fine u rd wr e =
-    let said = explains words bytes left_now (refusal.Aiger fault) fine e in
+    elim said.1.0 [ inl wrong ↦ (let right = fine.is_net in cc) | inr wrong ↦ (let right = fine.is_net in cc) ]
+complete words bytes left_now (refusal.Netlist fault) fine u rd wr e =
+    let said = explains words bytes left_now (refusal.Netlist fault) fine e in
     let wrong = said.1.0.0 in
     let right = fine.is_net in
     cc

@@ -1,14 +1,16 @@
 -- What bytes with a fault come to.
 use Rattle.std.proofs.Common.{◌≡◌, ◌⊎◌, inl, inr, ℕ, List, Option, Some, None, true, refl, subst, arith}
 use Rattle.std.specs.Prelude.{Err}
-use Rattle.pim_aiger.specs.Files.{net_of}
-use Rattle.pim_aiger.specs.declared.fault.AigerFault.{AigerFault}
+use Rattle.pim_top.specs.Netlists.{net_of, IsFault}
 use Rattle.pim_aiger.specs.declared.fault.AigerFault.TheVariants as aiger
+use Rattle.pim_blif.specs.declared.fault.BlifFault.TheVariants as blif
+use Rattle.pim_top.specs.declared.netlist.NetlistFault.{NetlistFault}
+use Rattle.pim_top.specs.declared.netlist.NetlistFault.TheVariants.{Aiger, Blif}
 use Rattle.pim_words.specs.Reading.{is_usage}
 use Rattle.pim_words.specs.declared.command.Command.{Command}
 use Rattle.pim_words.specs.declared.command.Command.TheVariants.{Compile}
 use Rattle.pim_top.specs.Compiled.{IsCut, IsDone, Writes}
-use Rattle.pim_top.specs.Refusals.{IsExplained, IsFault, IsFaulty, NeedsMore, HasTooManyNodes, budget_of, Refuses}
+use Rattle.pim_top.specs.Refusals.{IsExplained, IsFaulty, NeedsMore, HasTooManyNodes, budget_of, Refuses}
 use Rattle.pim_top.specs.Statuses.{status_of}
 use Rattle.pim_top.specs.declared.refusal.Limit.TheVariants as limit
 use Rattle.pim_top.specs.declared.refusal.Refusal.{Refusal}
@@ -16,7 +18,7 @@ use Rattle.pim_top.specs.declared.refusal.Refusal.TheVariants as refusal
 use Rattle.pim_top.specs.declared.status.Status.TheVariants as status
 
 -- no command writes anything of such bytes
-writes-none : (command : Command) (bytes written : List ℕ) (fault : AigerFault) → net_of bytes ≡ Err fault → Writes command bytes written → ⊥
+writes-none : (command : Command) (bytes written : List ℕ) (fault : NetlistFault) → net_of bytes ≡ Err fault → Writes command bytes written → ⊥
 writes-none (Compile target level cells) bytes written fault e made =
     let right = made.is_net in
     cc
@@ -66,8 +68,14 @@ refused words bytes before left_now taken_now (refusal.TooLarge limit.Nodes) fau
     cc
 refused words bytes before left_now taken_now (refusal.TooLarge (limit.Netlist kind)) faulty u rd wr e =
     let said = explains words bytes left_now (refusal.TooLarge (limit.Netlist kind)) faulty e in
-    let other = said.1.0 in
-    let wrong = faulty.is_fault in
-    let same : faulty.fault ≡ aiger.TooLarge kind = cc in
-    absurd (subst IsFault same faulty.own)
-refused words bytes before left_now taken_now (refusal.Aiger fault) faulty u rd wr e = inl refl
+    elim said.1.0 [
+      | inl other ↦
+          let wrong = faulty.is_fault in
+          let same : faulty.fault ≡ Aiger (aiger.TooLarge kind) = cc in
+          absurd (subst IsFault same faulty.own)
+      | inr other ↦
+          let wrong = faulty.is_fault in
+          let same : faulty.fault ≡ Blif (blif.TooLarge kind) = cc in
+          absurd (subst IsFault same faulty.own)
+    ]
+refused words bytes before left_now taken_now (refusal.Netlist fault) faulty u rd wr e = inl refl

@@ -2,7 +2,7 @@
 use Rattle.std.specs.Prelude.{◌≡◌, ◌≤◌, ◌-◌, ℕ, List, ◌++◌, Option, Some, Ok, length, take}
 use Rattle.pim_io.specs.Outside.{Told}
 use Rattle.pim_net.specs.Netlist.{NetView, draft_of}
-use Rattle.pim_aiger.specs.Files.{net_of}
+use Rattle.pim_top.specs.Netlists.{net_of}
 use Rattle.pim_isa.specs.Programs.{ProgramView}
 use Rattle.pim_isa.specs.Primed.{IsPrimed}
 use Rattle.pim_isa.specs.Sound.{IsProgram}

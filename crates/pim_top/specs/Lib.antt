@@ -1,4 +1,5 @@
 pub mod Compiled
+pub mod Netlists
 pub mod Statuses
 pub mod Refusals
 pub mod Notes

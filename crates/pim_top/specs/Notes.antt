@@ -6,6 +6,10 @@ use Rattle.pim_net.specs.declared.fault.NetFault.TheVariants as net
 use Rattle.pim_net.specs.declared.kind.Kind.TheVariants as kind
 use Rattle.pim_aiger.specs.declared.fault.AigerFault.{AigerFault}
 use Rattle.pim_aiger.specs.declared.fault.AigerFault.TheVariants as aiger
+use Rattle.pim_blif.specs.declared.fault.BlifFault.{BlifFault}
+use Rattle.pim_blif.specs.declared.fault.BlifFault.TheVariants as blif
+use Rattle.pim_top.specs.declared.netlist.NetlistFault.{NetlistFault}
+use Rattle.pim_top.specs.declared.netlist.NetlistFault.TheVariants.{Aiger, Blif}
 use Rattle.pim_top.specs.declared.refusal.Limit.{Limit}
 use Rattle.pim_top.specs.declared.refusal.Limit.TheVariants as limit
 use Rattle.pim_top.specs.declared.refusal.Refusal.{Refusal}
@@ -48,6 +52,22 @@ aiger_detail (aiger.Net fault names) = net_detail fault names
 aiger_detail (aiger.TooLarge kind) = []
 aiger_detail aiger.NoMemory = []
 
+-- what is wrong with a BLIF file
+abbrev pub blif_detail : BlifFault → List ℕ
+blif_detail (blif.Syntax line) = codes "blif line " ++ decimal line ++ codes ": syntax"
+blif_detail (blif.Unsupported line name) = codes "blif line " ++ (decimal line ++ (codes ": unsupported " ++ name))
+blif_detail (blif.RowWidth line) = codes "blif line " ++ decimal line ++ codes ": row width"
+blif_detail (blif.MixedPhase line) = codes "blif line " ++ decimal line ++ codes ": mixed phase"
+blif_detail (blif.TwiceInput line) = codes "blif line " ++ decimal line ++ codes ": input twice"
+blif_detail (blif.Net fault names) = net_detail fault names
+blif_detail (blif.TooLarge kind) = []
+blif_detail blif.NoMemory = []
+
+-- what is wrong with a netlist's file
+abbrev pub netlist_detail : NetlistFault → List ℕ
+netlist_detail (Aiger fault) = aiger_detail fault
+netlist_detail (Blif fault) = blif_detail fault
+
 -- the text of a note
 abbrev pub note_text : Refusal → List ℕ
 note_text refusal.Usage = codes "usage"
@@ -56,7 +76,7 @@ note_text refusal.WriteFault = codes "write fault"
 note_text refusal.NoMemory = codes "no memory"
 note_text (refusal.TooFewCells needed) = codes "too few cells: needed " ++ decimal needed
 note_text (refusal.TooLarge limit) = codes "too large: " ++ limit_word limit
-note_text (refusal.Aiger fault) = codes "bad input: " ++ aiger_detail fault
+note_text (refusal.Netlist fault) = codes "bad input: " ++ netlist_detail fault
 
 -- the line
 abbrev pub note : Refusal → List ℕ

@@ -1,12 +1,14 @@
 -- Which inputs a command refuses, and why.
-use Rattle.std.specs.Prelude.{◌≡◌, ℕ, ◌<◌, ◌≤◌, List, [], Option, Some, Ok, Err, false, length}
+use Rattle.std.specs.Prelude.{◌≡◌, ◌⊎◌, ℕ, ◌<◌, ◌≤◌, List, [], Option, Some, Ok, Err, false, length}
 use Rattle.pim_io.specs.Outside.{Told}
 use Rattle.pim_net.specs.Netlist.{DraftView, NetView, draft_of}
 use Rattle.pim_net.specs.WellFormed.{IsNet}
 use Rattle.pim_net.specs.declared.fault.NetFault.TheVariants as net
-use Rattle.pim_aiger.specs.Files.{net_of}
+use Rattle.pim_net.specs.declared.kind.Kind.{Kind}
 use Rattle.pim_aiger.specs.declared.fault.AigerFault.{AigerFault}
 use Rattle.pim_aiger.specs.declared.fault.AigerFault.TheVariants as aiger
+use Rattle.pim_blif.specs.declared.fault.BlifFault.{BlifFault}
+use Rattle.pim_blif.specs.declared.fault.BlifFault.TheVariants as blif
 use Rattle.pim_aig.specs.Flat.{ands}
 use Rattle.pim_compile.specs.Refusals.{IsAccepted, wide_need}
 use Rattle.pim_compile.specs.declared.refusal.Refusal.{Refusal as Compiler}
@@ -14,7 +16,10 @@ use Rattle.pim_compile.specs.declared.refusal.Refusal.TheVariants as compiler
 use Rattle.pim_words.specs.Reading.{command_said, is_usage}
 use Rattle.pim_words.specs.declared.command.Command.{Command}
 use Rattle.pim_words.specs.declared.command.Command.TheVariants.{Compile}
+use Rattle.pim_top.specs.Netlists.{net_of, IsFault}
 use Rattle.pim_top.specs.Notes.{IsNoted, note}
+use Rattle.pim_top.specs.declared.netlist.NetlistFault.{NetlistFault}
+use Rattle.pim_top.specs.declared.netlist.NetlistFault.TheVariants.{Aiger, Blif}
 use Rattle.pim_top.specs.Statuses.{status_of}
 use Rattle.pim_top.specs.declared.refusal.Limit.TheVariants as limit
 use Rattle.pim_top.specs.declared.refusal.Refusal.{Refusal}
@@ -23,35 +28,38 @@ use Rattle.pim_top.specs.declared.status.Status.{Status}
 
 -- the refusal of an AIGER fault: a limit and want of memory have statuses of their own
 abbrev pub aiger_refusal : AigerFault → Refusal
-aiger_refusal aiger.Header = refusal.Aiger aiger.Header
-aiger_refusal aiger.Latches = refusal.Aiger aiger.Latches
-aiger_refusal (aiger.Number place) = refusal.Aiger (aiger.Number place)
-aiger_refusal (aiger.Literal place) = refusal.Aiger (aiger.Literal place)
-aiger_refusal (aiger.Truncated place) = refusal.Aiger (aiger.Truncated place)
-aiger_refusal (aiger.Delta place) = refusal.Aiger (aiger.Delta place)
-aiger_refusal (aiger.Symbol place) = refusal.Aiger (aiger.Symbol place)
-aiger_refusal (aiger.Net (net.Twice s) names) = refusal.Aiger (aiger.Net (net.Twice s) names)
-aiger_refusal (aiger.Net (net.Undriven s) names) = refusal.Aiger (aiger.Net (net.Undriven s) names)
-aiger_refusal (aiger.Net (net.Cycle ss) names) = refusal.Aiger (aiger.Net (net.Cycle ss) names)
+aiger_refusal aiger.Header = refusal.Netlist (Aiger aiger.Header)
+aiger_refusal aiger.Latches = refusal.Netlist (Aiger aiger.Latches)
+aiger_refusal (aiger.Number place) = refusal.Netlist (Aiger (aiger.Number place))
+aiger_refusal (aiger.Literal place) = refusal.Netlist (Aiger (aiger.Literal place))
+aiger_refusal (aiger.Truncated place) = refusal.Netlist (Aiger (aiger.Truncated place))
+aiger_refusal (aiger.Delta place) = refusal.Netlist (Aiger (aiger.Delta place))
+aiger_refusal (aiger.Symbol place) = refusal.Netlist (Aiger (aiger.Symbol place))
+aiger_refusal (aiger.Net (net.Twice s) names) = refusal.Netlist (Aiger (aiger.Net (net.Twice s) names))
+aiger_refusal (aiger.Net (net.Undriven s) names) = refusal.Netlist (Aiger (aiger.Net (net.Undriven s) names))
+aiger_refusal (aiger.Net (net.Cycle ss) names) = refusal.Netlist (Aiger (aiger.Net (net.Cycle ss) names))
 aiger_refusal (aiger.Net net.NoMemory names) = refusal.NoMemory
 aiger_refusal (aiger.TooLarge kind) = refusal.TooLarge (limit.Netlist kind)
 aiger_refusal aiger.NoMemory = refusal.NoMemory
 
--- a fault of the file itself, which is neither a limit nor want of memory
-abbrev pub IsFault : AigerFault → Type 0
-IsFault aiger.Header = Unit {0}
-IsFault aiger.Latches = Unit {0}
-IsFault (aiger.Number place) = Unit {0}
-IsFault (aiger.Literal place) = Unit {0}
-IsFault (aiger.Truncated place) = Unit {0}
-IsFault (aiger.Delta place) = Unit {0}
-IsFault (aiger.Symbol place) = Unit {0}
-IsFault (aiger.Net (net.Twice s) names) = Unit {0}
-IsFault (aiger.Net (net.Undriven s) names) = Unit {0}
-IsFault (aiger.Net (net.Cycle ss) names) = Unit {0}
-IsFault (aiger.Net net.NoMemory names) = ⊥
-IsFault (aiger.TooLarge kind) = ⊥
-IsFault aiger.NoMemory = ⊥
+-- the refusal of a BLIF fault
+abbrev pub blif_refusal : BlifFault → Refusal
+blif_refusal (blif.Syntax line) = refusal.Netlist (Blif (blif.Syntax line))
+blif_refusal (blif.Unsupported line name) = refusal.Netlist (Blif (blif.Unsupported line name))
+blif_refusal (blif.RowWidth line) = refusal.Netlist (Blif (blif.RowWidth line))
+blif_refusal (blif.MixedPhase line) = refusal.Netlist (Blif (blif.MixedPhase line))
+blif_refusal (blif.TwiceInput line) = refusal.Netlist (Blif (blif.TwiceInput line))
+blif_refusal (blif.Net (net.Twice s) names) = refusal.Netlist (Blif (blif.Net (net.Twice s) names))
+blif_refusal (blif.Net (net.Undriven s) names) = refusal.Netlist (Blif (blif.Net (net.Undriven s) names))
+blif_refusal (blif.Net (net.Cycle ss) names) = refusal.Netlist (Blif (blif.Net (net.Cycle ss) names))
+blif_refusal (blif.Net net.NoMemory names) = refusal.NoMemory
+blif_refusal (blif.TooLarge kind) = refusal.TooLarge (limit.Netlist kind)
+blif_refusal blif.NoMemory = refusal.NoMemory
+
+-- the refusal of a fault of a netlist's file
+abbrev pub netlist_refusal : NetlistFault → Refusal
+netlist_refusal (Aiger fault) = aiger_refusal fault
+netlist_refusal (Blif fault) = blif_refusal fault
 
 -- the refusal of one of the compiler
 abbrev pub compile_refusal : Compiler → Refusal
@@ -80,6 +88,11 @@ pub record HasTooManyNodes (bytes : List ℕ) : Type 0 where
   pub is_net : net_of bytes ≡ Ok (draft_of net)
   pub many : 1048576 < ands net
 
+-- the bytes pass a limit of their format's reader
+abbrev pub PassesLimit : List ℕ → Kind → Type 0
+PassesLimit bytes kind =
+    (net_of bytes ≡ Err (Aiger (aiger.TooLarge kind))) ⊎ (net_of bytes ≡ Err (Blif (blif.TooLarge kind)))
+
 -- what a refusal of `compile` says of the bytes of its input
 abbrev pub Explains : List ℕ → ℕ → Refusal → Type 0
 Explains bytes budget refusal.Usage = Unit {0}
@@ -89,8 +102,8 @@ Explains bytes budget refusal.NoMemory = Unit {0}
 Explains bytes budget (refusal.TooFewCells needed) = NeedsMore bytes budget needed
 Explains bytes budget (refusal.TooLarge limit.Bytes) = 67108864 < length bytes
 Explains bytes budget (refusal.TooLarge limit.Nodes) = HasTooManyNodes bytes
-Explains bytes budget (refusal.TooLarge (limit.Netlist kind)) = net_of bytes ≡ Err (aiger.TooLarge kind)
-Explains bytes budget (refusal.Aiger fault) = (net_of bytes ≡ Err fault) × IsFault fault
+Explains bytes budget (refusal.TooLarge (limit.Netlist kind)) = PassesLimit bytes kind
+Explains bytes budget (refusal.Netlist fault) = (net_of bytes ≡ Err fault) × IsFault fault
 
 -- a refusal that judges the bytes that were read
 abbrev pub IsOfBytes : Refusal → Type 0
@@ -102,7 +115,7 @@ IsOfBytes (refusal.TooFewCells needed) = Unit {0}
 IsOfBytes (refusal.TooLarge limit.Bytes) = ⊥
 IsOfBytes (refusal.TooLarge limit.Nodes) = Unit {0}
 IsOfBytes (refusal.TooLarge (limit.Netlist kind)) = Unit {0}
-IsOfBytes (refusal.Aiger fault) = Unit {0}
+IsOfBytes (refusal.Netlist fault) = Unit {0}
 
 -- the number of cells that a command allows
 abbrev pub budget_of : Command → ℕ
@@ -145,6 +158,6 @@ pub record IsFaulty (words : List (List ℕ)) (bytes : List ℕ) : Type 0 where
   pub said : command_said words ≡ Some command
   pub accepted : is_usage words ≡ false
   pub fits : length bytes ≤ 67108864
-  pub fault : AigerFault
+  pub fault : NetlistFault
   pub is_fault : net_of bytes ≡ Err fault
   pub own : IsFault fault

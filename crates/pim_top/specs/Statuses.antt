@@ -14,7 +14,7 @@ status_of refusal.WriteFault = status.WriteFault
 status_of refusal.NoMemory = status.NoMemory
 status_of (refusal.TooFewCells needed) = status.TooFewCells
 status_of (refusal.TooLarge limit) = status.TooLarge
-status_of (refusal.Aiger fault) = status.BadInput
+status_of (refusal.Netlist fault) = status.BadInput
 
 -- the refusal of words
 abbrev pub words_refusal : WordsFault → Refusal
@@ -29,4 +29,4 @@ IsInner refusal.WriteFault = ⊥
 IsInner refusal.NoMemory = Unit {0}
 IsInner (refusal.TooFewCells needed) = Unit {0}
 IsInner (refusal.TooLarge limit) = Unit {0}
-IsInner (refusal.Aiger fault) = Unit {0}
+IsInner (refusal.Netlist fault) = Unit {0}

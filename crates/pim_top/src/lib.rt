@@ -3,6 +3,7 @@
 #![tactic(auto)]
 
 mod commands;
+mod netlist;
 mod note;
 mod refusal;
 mod status;

@@ -1,11 +1,13 @@
 //! The one line that a refusal writes to the notes.
 ghost use Rattle.std.specs.Prelude.{◌≡◌, ◌≤◌, ◌++◌, OnErr, OnOk, codes, decimal};
 ghost use Rattle.pim_io.specs.Outside.{Rose, TookAll, TookFirst};
-ghost use Rattle.pim_top.specs.Notes.{aiger_detail, cycle_labels, label_of, limit_word, net_detail, note, IsNoted};
+ghost use Rattle.pim_top.specs.Notes.{aiger_detail, blif_detail, cycle_labels, label_of, limit_word, net_detail, note, IsNoted};
 
+use crate::netlist::NetlistFault;
 use crate::refusal::{Limit, Refusal};
 use itoa::Buffer;
 use pim_aiger::AigerFault;
+use pim_blif::BlifFault;
 use pim_io::{Sink, SinkFault, write_all};
 use pim_net::{Kind, Names, NetFault};
 
@@ -32,8 +34,58 @@ fn write_note<E: Sink>(refusal: &Refusal, notes: &mut E) -> Result<(), SinkFault
             write_counted(notes, b"pim: too few cells: needed ", *needed)
         }
         Refusal::TooLarge(limit) => write_line(notes, b"pim: too large: ", limit_word(*limit)),
-        Refusal::Aiger(fault) => write_aiger(notes, fault),
+        Refusal::Netlist(NetlistFault::Aiger(fault)) => write_aiger(notes, fault),
+        Refusal::Netlist(NetlistFault::Blif(fault)) => write_blif(notes, fault),
     }
+}
+
+/// Writes the fault of a BLIF file with its line, or that of its netlist with the signals' labels.
+fn write_blif<E: Sink>(notes: &mut E, fault: &BlifFault) -> Result<(), SinkFault>
+    ensures whole { OnOk result (TookAll (E.taken notes.old) (E.taken notes.new)
+        (codes "pim: bad input: " ++ (blif_detail fault.now ++ codes "\n"))) }
+    ensures prefix { OnErr result (TookFirst (E.taken notes.old) (E.taken notes.new)
+        (codes "pim: bad input: " ++ (blif_detail fault.now ++ codes "\n"))) }
+    ensures counted { OnErr result (Rose (E.faults notes.old) (E.faults notes.new)) }
+{
+    match fault {
+        BlifFault::Syntax(line) => write_at_line(notes, *line, b": syntax"),
+        BlifFault::Unsupported(line, name) => write_unsupported(notes, *line, name.bytes()),
+        BlifFault::RowWidth(line) => write_at_line(notes, *line, b": row width"),
+        BlifFault::MixedPhase(line) => write_at_line(notes, *line, b": mixed phase"),
+        BlifFault::TwiceInput(line) => write_at_line(notes, *line, b": input twice"),
+        BlifFault::Net(fault, names) => write_net(notes, fault, names),
+        BlifFault::TooLarge(_) => write_all(notes, b"pim: bad input: \n"),
+        BlifFault::NoMemory => write_all(notes, b"pim: bad input: \n"),
+    }
+}
+
+/// Writes what is wrong in a line of a BLIF file.
+fn write_at_line<E: Sink>(notes: &mut E, line: u32, text: &[u8]) -> Result<(), SinkFault>
+    ensures whole { OnOk result (TookAll (E.taken notes.old) (E.taken notes.new)
+        (codes "pim: bad input: " ++ ((codes "blif line " ++ (decimal line ++ text.now)) ++ codes "\n"))) }
+    ensures prefix { OnErr result (TookFirst (E.taken notes.old) (E.taken notes.new)
+        (codes "pim: bad input: " ++ ((codes "blif line " ++ (decimal line ++ text.now)) ++ codes "\n"))) }
+    ensures counted { OnErr result (Rose (E.faults notes.old) (E.faults notes.new)) }
+{
+    let mut digits = Buffer::new();
+    write_all(notes, b"pim: bad input: blif line ")?;
+    write_line(notes, digits.format(line).as_bytes(), text)?;
+    Ok(())
+}
+
+/// Writes that a directive in a line of a BLIF file is not supported.
+fn write_unsupported<E: Sink>(notes: &mut E, line: u32, label: &[u8]) -> Result<(), SinkFault>
+    ensures whole { OnOk result (TookAll (E.taken notes.old) (E.taken notes.new)
+        (codes "pim: bad input: " ++ ((codes "blif line " ++ (decimal line ++ (codes ": unsupported " ++ label.now))) ++ codes "\n"))) }
+    ensures prefix { OnErr result (TookFirst (E.taken notes.old) (E.taken notes.new)
+        (codes "pim: bad input: " ++ ((codes "blif line " ++ (decimal line ++ (codes ": unsupported " ++ label.now))) ++ codes "\n"))) }
+    ensures counted { OnErr result (Rose (E.faults notes.old) (E.faults notes.new)) }
+{
+    let mut digits = Buffer::new();
+    write_all(notes, b"pim: bad input: blif line ")?;
+    write_all(notes, digits.format(line).as_bytes())?;
+    write_line(notes, b": unsupported ", label)?;
+    Ok(())
 }
 
 /// Writes the fault of an AIGER file with its byte place, or that of its netlist with the signals' labels.

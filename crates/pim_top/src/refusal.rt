@@ -1,10 +1,12 @@
 //! Why a command wrote nothing, with the evidence that its note names.
 ghost use Rattle.std.specs.Prelude.{◌≡◌};
 ghost use Rattle.pim_top.specs.Statuses.{status_of, words_refusal, IsInner};
-ghost use Rattle.pim_top.specs.Refusals.{aiger_refusal};
+ghost use Rattle.pim_top.specs.Refusals.{aiger_refusal, blif_refusal, netlist_refusal};
 
 use crate::Status;
+use crate::netlist::NetlistFault;
 use pim_aiger::AigerFault;
+use pim_blif::BlifFault;
 use pim_net::{Kind, NetFault};
 use pim_words::WordsFault;
 
@@ -28,8 +30,8 @@ pub enum Refusal {
     NoMemory,
     TooFewCells { needed: u32 },
     TooLarge(Limit),
-    /// A fault of an AIGER file that is neither a limit nor want of memory.
-    Aiger(AigerFault),
+    /// A fault of a netlist's file that is neither a limit nor want of memory.
+    Netlist(NetlistFault),
 }
 
 impl Refusal {
@@ -44,7 +46,7 @@ impl Refusal {
             Refusal::NoMemory => Status::NoMemory,
             Refusal::TooFewCells { .. } => Status::TooFewCells,
             Refusal::TooLarge(_) => Status::TooLarge,
-            Refusal::Aiger(_) => Status::BadInput,
+            Refusal::Netlist(_) => Status::BadInput,
         }
     }
 
@@ -58,15 +60,38 @@ impl Refusal {
         }
     }
 
-    /// The refusal that a fault of an AIGER file comes to: a limit and want of memory have statuses of their own.
-    pub fn of_aiger(fault: AigerFault) -> Refusal
+    /// The refusal that a fault of a netlist's file comes to: a limit and want of memory have statuses of their own.
+    pub fn of_netlist(fault: NetlistFault) -> Refusal
+        ensures value { result ≡ netlist_refusal fault }
+        ensures inner { IsInner result }
+    {
+        match fault {
+            NetlistFault::Aiger(fault) => Refusal::of_aiger(fault),
+            NetlistFault::Blif(fault) => Refusal::of_blif(fault),
+        }
+    }
+
+    /// The refusal that a fault of an AIGER file comes to.
+    fn of_aiger(fault: AigerFault) -> Refusal
         ensures value { result ≡ aiger_refusal fault }
         ensures inner { IsInner result }
     {
         match fault {
             AigerFault::TooLarge(kind) => Refusal::TooLarge(Limit::Netlist(kind)),
             AigerFault::NoMemory | AigerFault::Net(NetFault::NoMemory, _) => Refusal::NoMemory,
-            fault => Refusal::Aiger(fault),
+            fault => Refusal::Netlist(NetlistFault::Aiger(fault)),
+        }
+    }
+
+    /// The refusal that a fault of a BLIF file comes to.
+    fn of_blif(fault: BlifFault) -> Refusal
+        ensures value { result ≡ blif_refusal fault }
+        ensures inner { IsInner result }
+    {
+        match fault {
+            BlifFault::TooLarge(kind) => Refusal::TooLarge(Limit::Netlist(kind)),
+            BlifFault::NoMemory | BlifFault::Net(NetFault::NoMemory, _) => Refusal::NoMemory,
+            fault => Refusal::Netlist(NetlistFault::Blif(fault)),
         }
     }
 }

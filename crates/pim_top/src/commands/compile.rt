@@ -5,6 +5,7 @@ ghost use Rattle.pim_top.specs.Compiled.{Compiled};
 ghost use Rattle.pim_top.specs.Refusals.{compile_refusal, Explains};
 ghost use Rattle.pim_top.specs.Statuses.{IsInner};
 
+use crate::netlist;
 use crate::refusal::{Limit, Refusal};
 use pim_compile::{Level, Target, compile};
 use std::alloc::Global;
@@ -26,9 +27,9 @@ pub fn text(alloc: Global, bytes: &[u8], options: &Options) -> Result<Vec<u8>, R
     ensures refused { IfErr result IsInner }
     ensures explained { IfErr result (Explains bytes.now options.now.cells) }
 {
-    let net = match pim_aiger::read(alloc, bytes) {
+    let net = match netlist::read(alloc, bytes) {
         Ok(net) => net,
-        Err(fault) => return Err(Refusal::of_aiger(fault)),
+        Err(fault) => return Err(Refusal::of_netlist(fault)),
     };
     let program = match compile(alloc, &net, options.target, options.level, options.cells) {
         Ok(program) => program,

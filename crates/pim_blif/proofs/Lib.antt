@@ -1,0 +1,10 @@
+mod Examples
+mod FileExamples
+pub mod Found
+pub mod Joins
+pub mod Marks
+pub mod Numbers
+pub mod Places
+pub mod Readings
+pub mod Rooms
+pub mod Whole
