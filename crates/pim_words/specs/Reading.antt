@@ -43,12 +43,12 @@ abbrev pub run_said : List Row → Option Command
 run_said rows = Some (Run (fill_of (first_of (codes "fill") rows)))
 
 -- a command that is built: its command line, and what the matches of that say
-pub record Built : Type 0 where
+pub record BuiltCommand : Type 0 where
   pub line : App
   pub said : List Row → Option Command
 
 -- the command of this name, where it is built
-abbrev pub cli : Text → Option Built
+abbrev pub cli : Text → Option BuiltCommand
 cli name =
     if bytes_eq name (codes "compile") then Some (record {
       line = compile_line;

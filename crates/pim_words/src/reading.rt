@@ -33,9 +33,8 @@ pub fn read(alloc: Global, words: &[String]) -> Result<Command, WordsFault>
         return Err(WordsFault::Usage);
     };
     if lacks_program(words) {
-        return Err(WordsFault::Usage);
-    }
-    if name.as_str() == "compile" {
+        Err(WordsFault::Usage)
+    } else if name.as_str() == "compile" {
         read_compile(alloc, words)
     } else if name.as_str() == "run" {
         read_run(alloc, rest)
