@@ -32,10 +32,20 @@ fn reads_run(rt: HostRuntime) -> Result<(), Fail> {
     let alloc = rt.alloc();
     let words = words_of(alloc, "run --help")?;
     let command = read(alloc, &words)?;
-    assert!(rt; command == Command::Run { fill: FillWord::Zeros });
+    assert!(rt;
+        command
+            == Command::Run {
+                fill: FillWord::Zeros
+            }
+    );
     let words = words_of(alloc, "run --fill --fill ones")?;
     let command = read(alloc, &words)?;
-    assert!(rt; command == Command::Run { fill: FillWord::Ones });
+    assert!(rt;
+        command
+            == Command::Run {
+                fill: FillWord::Ones
+            }
+    );
     Ok(())
 }
 
@@ -58,7 +68,12 @@ fn refuses_other_words(rt: HostRuntime) -> Result<(), Fail> {
 #[test]
 fn refuses_other_words_of_run(rt: HostRuntime) -> Result<(), Fail> {
     let alloc = rt.alloc();
-    for line in ["run", "run a --help", "run a --fill two", "run --fill ones a"] {
+    for line in [
+        "run",
+        "run a --help",
+        "run a --fill two",
+        "run --fill ones a",
+    ] {
         let words = words_of(alloc, line)?;
         assert!(rt; matches!(read(alloc, &words), Err(WordsFault::Usage)));
     }
