@@ -1,5 +1,5 @@
 -- A command line with its names moved refuses and reads as it did.
-use Rattle.std.proofs.Common.{◌≡◌, ◌∙◌, List, [], refl, sym, ap, ap₂, true}
+use Rattle.std.proofs.Common.{◌≡◌, ◌∙◌, List, [], sym, ap, ap₂, true}
 use Rattle.std.specs.Prelude.{is_some}
 use Rattle.clap.specs.Faults.{built_fault, entered_fault, fault_of, is_simple_and_free, level_fault}
 use Rattle.clap.specs.Simple.{App, Shape, argument_words, built, entered, matches_of, names_of}

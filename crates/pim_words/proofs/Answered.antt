@@ -1,17 +1,15 @@
 -- What the answer of `clap` says of a command line that reads as another does.
 use Rattle.std.proofs.Common.{◌≡◌, ◌∙◌, ◌∷◌, List, [], ap, inl, inr, rules, sym, true}
-use Rattle.std.specs.Prelude.{Err, Result}
 use Rattle.clap.specs.Faults.{fault_of, is_simple_and_free}
-use Rattle.clap.specs.Kinds.{FailsBy, HasKind, Kinds}
+use Rattle.clap.specs.Kinds.{HasKind, Kinds}
 use Rattle.clap.specs.Matches.{first_value, found_of, one_text}
-use Rattle.clap.specs.Simple.{App, HasMatchesOf, is_simple, matches_of}
-use Rattle.clap.specs.Walk.{Row, Text, first_of, is_empty, one_of, rows_of}
+use Rattle.clap.specs.Simple.{App, HasMatchesOf, matches_of}
+use Rattle.clap.specs.Walk.{Text, first_of, is_empty, one_of, rows_of}
 use Rattle.clap.specs.declared.error.Error.{Error}
 use Rattle.clap.specs.declared.parser.matches.ArgMatches.{ArgMatches}
 use Rattle.clap.proofs.WalkLemmas.{both, first_value-rows, one_text-rows}
 use Rattle.pim_words.specs.Reading.{ReadsAlike, refuses}
 use Rattle.pim_words.specs.Refusal.{IsFaultOf}
-use Rattle.pim_words.specs.declared.fault.WordsFault.{WordsFault}
 use Rattle.pim_words.specs.declared.fault.WordsFault.TheVariants.{NoMemory, Usage}
 use Rattle.std.specs.Prelude.{not}
 

@@ -1,6 +1,6 @@
 -- The command line of `compile` refuses and reads as its definition does, and gives a number of cells.
 use Rattle.std.proofs.Common.{◌≡◌, ◌∙◌, ◌≤◌, ◌<◌, ◌==◌, ◌++◌, ◌⊎◌, ℕ, Bool, List, [], ◌∷◌, length, drop, cond, refl, sym, ap, ap₂, subst, true, false, zero, suc, inl, inr, arith, codes, pos}
-use Rattle.std.specs.Prelude.{Some, None, is_some, unwrap_or}
+use Rattle.std.specs.Prelude.{Some, None, unwrap_or}
 use Rattle.std.specs.Borrow.{Bor}
 use Rattle.std.specs.List.{All, slice_index_or}
 use Rattle.std.specs.Str.{bytes_eq}
@@ -22,7 +22,6 @@ use Rattle.clap.specs.declared.builder.command.Command.{Command}
 use Rattle.clap.specs.declared.builder.command.Command.TheViews.{out-Command}
 use Rattle.clap.specs.declared.builder.value_parser.ValueParser.{ValueParser}
 use Rattle.clap.specs.declared.builder.value_parser.ValueParser.TheVariants as vp
-use Rattle.clap.specs.declared.builder.texts.Texts.TheVariants.{One}
 use Rattle.clap.specs.declared.parser.matches.ArgMatches.{ArgMatches}
 use Rattle.clap.proofs.CallerLemmas.{added_plain}
 use Rattle.clap.proofs.CallerReads.{required_reads}

@@ -1,4 +1,4 @@
-use Rattle.std.proofs.Common.{◌≡◌, ◌∙◌, ap, codes, map, subst, option_map}
+use Rattle.std.proofs.Common.{◌∙◌, ap, codes, map, subst, option_map}
 use Rattle.std.specs.Prelude.{IsErrAnd, Result}
 use Rattle.std.specs.String.{string_bytes}
 use Rattle.clap.specs.Words.{app_of}
