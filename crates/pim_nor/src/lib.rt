@@ -2,10 +2,14 @@
 //! A gate stands for a node or for its complement, exists once, and only where an output reaches it.
 #![tactic(auto)]
 
+mod gate_graph;
 mod kept;
+mod leaves;
 mod lowering;
 mod network;
+mod plan;
 mod reach;
+mod singles;
 mod slots;
 #[cfg(test)]
 mod tests;

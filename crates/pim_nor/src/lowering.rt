@@ -5,6 +5,7 @@ ghost use Rattle.pim_nor.specs.Values.{out_values};
 
 use crate::NorNet;
 use crate::kept::Kept;
+use crate::plan::Plan;
 use crate::reach::reached;
 use pim_aig::Aig;
 use pim_io::NoMemory;
@@ -13,18 +14,23 @@ use std::alloc::Global;
 /// How many operands a gate may have.
 #[derive(Clone, Copy, Debug, PartialEq, Eq)]
 pub enum Width {
+    /// Gates of one or two operands.
     Two,
+    /// Gates of one to four operands.
+    Four,
 }
 
 /// The network of the gates that the outputs reach, with gates of at most so many operands. Linear in the graph.
-pub fn lower(alloc: Global, aig: &Aig, _width: Width) -> Result<NorNet, NoMemory>
-    ensures network { IfOk result (λ network. network ≡ nors aig.now) }
+pub fn lower(alloc: Global, aig: &Aig, width: Width) -> Result<NorNet, NoMemory>
+    ensures network { IfOk result (λ network. network ≡ nors aig.now width) }
     ensures values { IfOk result (λ network. (bits : List Bool) → length bits ≡ aig.now.inputs →
         out_values network bits ≡ map (aval aig.now bits) aig.now.outputs) }
 {
     let inputs = aig.inputs();
-    let kept = Kept::of(alloc, reached(alloc, aig)?)?;
-    let gates = kept.gates(alloc, aig)?;
-    let outs = kept.outs(alloc, aig)?;
-    Ok(NorNet::new(inputs, gates, outs))
+    let plan = Plan::new(alloc, aig, width)?;
+    let kept = Kept::of(alloc, reached(alloc, &plan)?)?;
+    let gates = kept.gates(alloc, &plan)?;
+    let outs = kept.outs(alloc, &plan)?;
+    let network = NorNet::new(alloc, inputs, gates, outs)?;
+    Ok(network)
 }
