@@ -11,3 +11,4 @@ pub mod Sound
 pub mod Numbering
 pub mod PrunedValues
 pub mod NetworkValues
+pub mod Reachable

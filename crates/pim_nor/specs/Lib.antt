@@ -5,4 +5,5 @@ pub mod Named
 pub mod Network
 pub mod Plans
 pub mod Reached
+pub mod Reaching
 pub mod Values

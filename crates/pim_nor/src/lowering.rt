@@ -1,6 +1,7 @@
-ghost use Rattle.std.specs.Prelude.{◌≡◌, Bool, List, length, map, IfOk};
+ghost use Rattle.std.specs.Prelude.{◌≡◌, ◌↔◌, ℕ, Bool, List, length, map, IsTrue, IfOk, OnOk};
 ghost use Rattle.pim_aig.specs.Values.{aval};
 ghost use Rattle.pim_nor.specs.Lowered.{nors};
+ghost use Rattle.pim_nor.specs.Reaching.{IsReached, is_kept};
 ghost use Rattle.pim_nor.specs.Values.{out_values};
 
 use crate::NorNet;
@@ -25,6 +26,9 @@ pub fn lower(alloc: Global, aig: &Aig, width: Width) -> Result<NorNet, NoMemory>
     ensures network { IfOk result (λ network. network ≡ nors aig.now width) }
     ensures values { IfOk result (λ network. (bits : List Bool) → length bits ≡ aig.now.inputs →
         out_values network bits ≡ map (aval aig.now bits) aig.now.outputs) }
+
+    // It has exactly the gates that the outputs reach.
+    ensures reached { OnOk result ((slot : ℕ) → IsTrue (is_kept aig.now width slot) ↔ IsReached aig.now width slot) }
 {
     let inputs = aig.inputs();
     let plan = Plan::new(alloc, aig, width)?;

@@ -2,6 +2,7 @@ use Rattle.std.proofs.Common.{sym, ◌∙◌, ap, subst}
 use Rattle.pim_nor.specs.Network.{IsNetwork, NorView}
 use Rattle.pim_nor.specs.Values.{out_values}
 use Rattle.pim_nor.proofs.NetworkValues.{out_values-nors}
+use Rattle.pim_nor.proofs.Reachable.{kept-reached, reached-kept}
 use Rattle.pim_nor.proofs.Sound.{nors-IsNetwork, plan-network}
 use Rattle.pim_nor.proofs.lowering.lower.Goals as goal
 
@@ -22,3 +23,7 @@ returns-clause-values c =
     let marks_are = c.in_ok-kept.ensures ∙ c.in_ok-reached.ensures.marks in
     let e = c.in_ok-network.ensures ∙ plan-network c.args.aig.now c.args.width c.in_ok-plan.plan c.in_ok-plan.ensures c.in_ok-kept.kept _ _ _ marks_are c.inputs-inputs.ensures.count c.in_ok-gates.ensures c.in_ok-outs.ensures in
     ap (λ (n : NorView). out_values n bits) e ∙ out_values-nors c.args.aig.now c.inputs-inputs.ensures.sound c.args.width bits len
+
+pub returns-clause-reached : goal.returns-clause-reached
+returns-clause-reached c =
+    λ slot. (kept-reached c.args.aig.now c.args.width slot, λ r. reached-kept c.args.aig.now c.inputs-inputs.ensures.sound c.args.width r)
