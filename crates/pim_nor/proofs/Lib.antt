@@ -12,3 +12,4 @@ pub mod Numbering
 pub mod PrunedValues
 pub mod NetworkValues
 pub mod Reachable
+pub mod Fewer

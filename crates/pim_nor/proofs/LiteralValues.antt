@@ -30,10 +30,10 @@ value-even values l e = grind (arith, nat_tests)
 pub value-odd : (values : List Bool) (l : Lit) → l.0 % 2 ≡ 1 → literal_value values l ≡ not (get_or values (l.0 / 2) false)
 value-odd values l e = grind (arith, nat_tests)
 
-complement-even : (l : Lit) → l.0 % 2 ≡ 0 → (complement l).0 ≡ l.0 + 1
+pub complement-even : (l : Lit) → l.0 % 2 ≡ 0 → (complement l).0 ≡ l.0 + 1
 complement-even l e = grind arith
 
-complement-odd : (l : Lit) → l.0 % 2 ≡ 1 → (complement l).0 ≡ l.0 - 1
+pub complement-odd : (l : Lit) → l.0 % 2 ≡ 1 → (complement l).0 ≡ l.0 - 1
 complement-odd l e = grind arith
 
 pub not_not : (b : Bool) → not (not b) ≡ b
@@ -91,7 +91,7 @@ and_value values (a ∷ rest) (suc k) d h x y =
 source_low : (inputs : ℕ) (l : Lit) → l.0 < 2 → source inputs l ≡ Place (1 - l.0)
 source_low inputs l h = grind arith
 
-source_and : (inputs : ℕ) (l : Lit) → inputs < l.0 / 2 → source inputs l ≡ Place (l.0 - inputs)
+pub source_and : (inputs : ℕ) (l : Lit) → inputs < l.0 / 2 → source inputs l ≡ Place (l.0 - inputs)
 source_and inputs l h = grind arith
 
 source_odd : (inputs : ℕ) (l : Lit) → 2 ≤ l.0 → l.0 / 2 ≤ inputs → l.0 % 2 ≡ 1 → source inputs l ≡ Place (2 + inputs - l.0 / 2)

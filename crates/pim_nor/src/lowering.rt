@@ -1,8 +1,10 @@
-ghost use Rattle.std.specs.Prelude.{◌≡◌, ◌↔◌, ℕ, Bool, List, length, map, IsTrue, IfOk, OnOk};
+ghost use Rattle.std.specs.Prelude.{◌≡◌, ◌≤◌, ◌↔◌, ℕ, Bool, List, length, map, IsTrue, IfOk, OnOk};
 ghost use Rattle.pim_aig.specs.Values.{aval};
 ghost use Rattle.pim_nor.specs.Lowered.{nors};
+ghost use Rattle.pim_nor.specs.Network.{nor_count};
 ghost use Rattle.pim_nor.specs.Reaching.{IsReached, is_kept};
 ghost use Rattle.pim_nor.specs.Values.{out_values};
+ghost use Rattle.pim_nor.specs.declared.lowering.Width.TheVariants as width_is;
 
 use crate::NorNet;
 use crate::kept::Kept;
@@ -29,6 +31,9 @@ pub fn lower(alloc: Global, aig: &Aig, width: Width) -> Result<NorNet, NoMemory>
 
     // It has exactly the gates that the outputs reach.
     ensures reached { OnOk result ((slot : ℕ) → IsTrue (is_kept aig.now width slot) ↔ IsReached aig.now width slot) }
+
+    // Greater gates are never more.
+    ensures no_more { OnOk result (nor_count (nors aig.now width_is.Four).gates ≤ nor_count (nors aig.now width_is.Two).gates) }
 {
     let inputs = aig.inputs();
     let plan = Plan::new(alloc, aig, width)?;

@@ -1,6 +1,7 @@
 use Rattle.std.proofs.Common.{sym, ◌∙◌, ap, subst}
 use Rattle.pim_nor.specs.Network.{IsNetwork, NorView}
 use Rattle.pim_nor.specs.Values.{out_values}
+use Rattle.pim_nor.proofs.Fewer.{nor_count-narrower}
 use Rattle.pim_nor.proofs.NetworkValues.{out_values-nors}
 use Rattle.pim_nor.proofs.Reachable.{kept-reached, reached-kept}
 use Rattle.pim_nor.proofs.Sound.{nors-IsNetwork, plan-network}
@@ -27,3 +28,6 @@ returns-clause-values c =
 pub returns-clause-reached : goal.returns-clause-reached
 returns-clause-reached c =
     λ slot. (kept-reached c.args.aig.now c.args.width slot, λ r. reached-kept c.args.aig.now c.inputs-inputs.ensures.sound c.args.width r)
+
+pub returns-clause-no_more : goal.returns-clause-no_more
+returns-clause-no_more c = nor_count-narrower c.args.aig.now c.inputs-inputs.ensures.sound
