@@ -13,3 +13,4 @@ pub mod PrunedValues
 pub mod NetworkValues
 pub mod Reachable
 pub mod Fewer
+mod Examples
