@@ -23,7 +23,10 @@ pub enum Width {
     Four,
 }
 
-/// The network of the gates that the outputs reach, with gates of at most so many operands. Linear in the graph.
+/// The network of the gates that the outputs of a graph reach, each of at most so many operands. It has two gates for each
+/// AND node at most: the NOR of the complements of its leaves, and the NOT of that. At width four an operand that is the
+/// plain literal of a node which nothing else reads gives way to that node's operands, while the leaves are fewer than four.
+/// Linear in the graph. The only error is `NoMemory`.
 pub fn lower(alloc: Global, aig: &Aig, width: Width) -> Result<NorNet, NoMemory>
     ensures network { IfOk result (λ network. network ≡ nors aig.now width) }
     ensures values { IfOk result (λ network. (bits : List Bool) → length bits ≡ aig.now.inputs →

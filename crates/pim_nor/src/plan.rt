@@ -109,11 +109,11 @@ impl<'a> Plan<'a> {
         ensures few { length (literals_of result) ≤ length (literals_of leaves) + 1 }
     {
         match leaves {
-            Leaves::Two(x, y) => {
-                if let Some(and) = self.opened(x) {
-                    Leaves::Three(and.x, and.y, y)
-                } else if let Some(and) = self.opened(y) {
-                    Leaves::Three(x, and.x, and.y)
+            Leaves::Two(first, second) => {
+                if let Some(and) = self.opened(first) {
+                    Leaves::Three(and.x, and.y, second)
+                } else if let Some(and) = self.opened(second) {
+                    Leaves::Three(first, and.x, and.y)
                 } else {
                     leaves
                 }
