@@ -1,5 +1,5 @@
 -- Small graphs, with their networks at both widths by computation.
-use Rattle.std.specs.Prelude.{◌≡◌, ℕ, Bool, true, false, List, [], ◌∷◌, refl}
+use Rattle.std.specs.Prelude.{◌≡◌, ℕ, true, List, [], ◌∷◌, refl}
 use Rattle.pim_aig.specs.Graph.{AigView}
 use Rattle.pim_aig.specs.declared.literal.Lit.{Lit}
 use Rattle.pim_aig.specs.declared.graph.And.{And}

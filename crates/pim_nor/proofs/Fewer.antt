@@ -1,23 +1,22 @@
 -- At width four the outputs reach no gate that they don't reach at width two, so there are no more NORs.
 use Rattle.std.proofs.Common.{◌≡◌, ◌≢◌, ◌⊎◌, ℕ, zero, suc, ◌+◌, ◌-◌, ◌*◌, ◌/◌, ◌%◌, ◌<◌, ◌≤◌, Bool, true, false, cond, eqb, ◌||◌, List, [], ◌∷◌, length, get_or, map, Contains, inl, inr, refl, sym, ◌∙◌, ap, subst, arith}
-use Rattle.std.proofs.lemmas.Bool.{cases_eq, cases_lt, false≢true, cond_both, cond-true, cond-false, eq-eqb, ne_eqb}
+use Rattle.std.proofs.lemmas.Bool.{cases_eq, cases_lt, false≢true, cond_both, cond-false, ne_eqb}
 use Rattle.std.proofs.lemmas.List.{length-map}
 use Rattle.std.proofs.lemmas.List.Sums.{sum_by-cons}
-use Rattle.pim_aig.specs.Graph.{AigView, IsAig, nodes}
+use Rattle.pim_aig.specs.Graph.{AigView, IsAig}
 use Rattle.pim_aig.specs.Literals.{complement}
 use Rattle.pim_aig.specs.declared.literal.Lit.{Lit}
-use Rattle.pim_nor.specs.Leaves.{leaves, operands, and_at, widened, distinct, gives_way}
-use Rattle.pim_nor.specs.Lowered.{marks_of, nors, roots}
+use Rattle.pim_nor.specs.Leaves.{leaves, operands, and_at, widened, distinct}
+use Rattle.pim_nor.specs.Lowered.{marks_of, nors}
 use Rattle.pim_nor.specs.Named.{slots, source, literal_at, gate_of, gate_at, nor_of, nor_of_leaves}
 use Rattle.pim_nor.specs.Network.{pins, is_nor, nor_count}
 use Rattle.pim_nor.specs.Reached.{numbered_gate, kept}
-use Rattle.pim_nor.specs.Reaching.{IsReached, by_output, by_gate, is_kept}
-use Rattle.pim_nor.specs.declared.lowering.Width.{Width}
+use Rattle.pim_nor.specs.Reaching.{IsReached, by_output, by_gate}
 use Rattle.pim_nor.specs.declared.lowering.Width.TheVariants.{Two, Four}
 use Rattle.pim_nor.specs.declared.network.Gate.{Gate}
 use Rattle.pim_nor.specs.declared.network.Gate.TheVariants.{One, Not, Nor, Nor3, Nor4}
 use Rattle.pim_nor.specs.declared.network.Pin.{Pin}
-use Rattle.pim_nor.specs.declared.network.Pin.TheVariants.{Input, Gate as Place}
+use Rattle.pim_nor.specs.declared.network.Pin.TheVariants.{Gate as Place}
 use Rattle.pim_nor.proofs.LeafLists.{AllOf, AllOf-distinct, AllOf-widened, IsAnd, IsOpened, AreLeaves, leaves-AreLeaves}
 use Rattle.pim_nor.proofs.LiteralValues.{pins-nor_of, complement-even, complement-odd, source_and}
 use Rattle.pim_nor.proofs.Reachable.{reached-kept, kept-reached, marked_there}
@@ -219,5 +218,5 @@ nor_count-narrower g sound =
     let two = marks_of g (leaves g Two) in
     let same : length four ≡ length two = length-marks_of g (leaves g Four) ∙ sym (length-marks_of g (leaves g Two)) in
     nor_count-kept (λ s. numbered_gate four (gate_at g (leaves g Four) s)) (λ s. numbered_gate two (gate_at g (leaves g Two) s)) 0 four two same
-      (λ k m. reached-kept g sound Two (reached-narrower g sound (kept-reached g Four k m)))
-      (λ t e. is_nor-numbered two (gate_at g (leaves g Two) t) ∙ nor_at_two g (literal_at g.inputs t) (leaves g Four) (sym (is_nor-numbered four (gate_at g (leaves g Four) t)) ∙ e))
+    (λ k m. reached-kept g sound Two (reached-narrower g sound (kept-reached g Four k m)))
+    (λ t e. is_nor-numbered two (gate_at g (leaves g Two) t) ∙ nor_at_two g (literal_at g.inputs t) (leaves g Four) (sym (is_nor-numbered four (gate_at g (leaves g Four) t)) ∙ e))

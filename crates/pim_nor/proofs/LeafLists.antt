@@ -1,7 +1,7 @@
 -- What lists of leaves must be for the network to have the graph's values, and that the leaves of both widths are so.
-use Rattle.std.proofs.Common.{◌≡◌, ℕ, ◌+◌, ◌-◌, ◌*◌, ◌/◌, ◌%◌, ◌<◌, ◌≤◌, suc, Bool, true, false, cond, eqb, ltb, ◌&&◌, List, [], ◌∷◌, ◌++◌, length, get_or, refl, sym, ◌∙◌, ap, arith, inl, inr}
+use Rattle.std.proofs.Common.{◌≡◌, ◌⊎◌, ℕ, ◌+◌, ◌-◌, ◌*◌, ◌/◌, ◌%◌, ◌<◌, ◌≤◌, suc, Bool, true, false, cond, eqb, ltb, ◌&&◌, List, [], ◌∷◌, ◌++◌, length, get_or, refl, sym, ◌∙◌, ap, subst, arith, inl, inr}
 use Rattle.std.specs.List.{list_any}
-use Rattle.std.proofs.lemmas.Bool.{false≢true, or_cases, and_parts, cond_both, eqb-true, ltb-true}
+use Rattle.std.proofs.lemmas.Bool.{false≢true, cases_Bool, or_cases, and_parts, cond-true, cond-false, cond_both, eqb-true, ltb-true}
 use Rattle.pim_aig.specs.Graph.{AigView, IsAig, nodes}
 use Rattle.pim_aig.specs.Literals.{plain}
 use Rattle.pim_aig.specs.Values.{literal_value}
@@ -161,6 +161,39 @@ some-widened g (l ∷ ls) h =
 some-distinct_all : (ls : List Lit) → 0 < length ls → 0 < length (distinct ls)
 some-distinct_all [] h = h
 some-distinct_all (l ∷ ls) h = some-distinct l ls
+
+-- widening puts one literal in, or none of them gives way and all stay
+widened-cases : (g : AigView) (ls : List Lit) → (length (widened g ls) ≡ suc (length ls)) ⊎ (AllOf (λ l. gives_way g l ≡ false) ls × (widened g ls ≡ ls))
+widened-cases g [] = inr (tt, refl)
+widened-cases g (l ∷ ls) =
+    let x = (and_at g (l.0 / 2)).x in
+    let y = (and_at g (l.0 / 2)).y in
+    elim (cases_Bool (gives_way g l)) [
+      | inl gives ↦ inl (ap (λ (ms : List Lit). length ms) (cond-true (gives_way g l) (x ∷ y ∷ ls) (l ∷ widened g ls) gives))
+      | inr stays ↦
+          let here : widened g (l ∷ ls) ≡ l ∷ widened g ls = cond-false (gives_way g l) (x ∷ y ∷ ls) (l ∷ widened g ls) stays in
+          elim (widened-cases g ls) [
+            | inl grown ↦ inl (ap (λ (ms : List Lit). length ms) here ∙ ap suc grown)
+            | inr same ↦ inr ((stays, same.0), here ∙ ap (λ (ms : List Lit). l ∷ ms) same.1)
+          ]
+    ]
+
+-- widening operands twice goes on as long as it can: there are four literals, or none gives way
+pub widened-full : (g : AigView) (n : ℕ) → (length (widened g (widened g (operands g n))) ≡ 4) ⊎ AllOf (λ l. gives_way g l ≡ false) (widened g (widened g (operands g n)))
+widened-full g n =
+    let once = widened g (operands g n) in
+    let P : List Lit → Type 0 = AllOf (λ l. gives_way g l ≡ false) in
+    elim (widened-cases g once) [
+      | inr same ↦ inr (subst P (sym same.1) same.0)
+      | inl grown ↦ elim (widened-cases g (operands g n)) [
+        | inl first ↦ inl (grown ∙ ap suc first)
+        | inr same ↦
+            let none : once ≡ operands g n = same.1 in
+            let stays : widened g once ≡ once = ap (widened g) none in
+            let len : length (widened g once) ≡ length once = ap (λ (ms : List Lit). length ms) stays in
+            absurd (omega arith)
+      ]
+    ]
 
 -- an opened literal has the value of its operands' conjunction, so widening keeps the conjunction of all
 all_true-widened : (g : AigView) (bits values : List Bool) → IsEvaluated g bits values → (ls : List Lit) → AllOf (IsBefore (nodes g)) ls → all_true values (widened g ls) ≡ all_true values ls

@@ -30,6 +30,6 @@ network_at g leaves marks = record {
 abbrev pub network_of : AigView → (ℕ → List Lit) → NorView
 network_of g leaves = network_at g leaves (marks_of g leaves)
 
--- the network of gates of at most so many operands
+-- the network of a graph, with gates of at most so many operands
 abbrev pub nors : AigView → Width → NorView
 nors g width = network_of g (leaves g width)

@@ -32,10 +32,10 @@ pub fn lower(alloc: Global, aig: &Aig, width: Width) -> Result<NorNet, NoMemory>
     ensures values { IfOk result (λ network. (bits : List Bool) → length bits ≡ aig.now.inputs →
         out_values network bits ≡ map (aval aig.now bits) aig.now.outputs) }
 
-    // It has exactly the gates that the outputs reach.
+    // Of all gates that the graph can need, it has exactly those that the outputs reach.
     ensures reached { OnOk result ((slot : ℕ) → IsTrue (is_kept aig.now width slot) ↔ IsReached aig.now width slot) }
 
-    // Greater gates are never more.
+    // At width four there are no more NORs than at width two.
     ensures no_more { OnOk result (nor_count (nors aig.now width_is.Four).gates ≤ nor_count (nors aig.now width_is.Two).gates) }
 {
     let inputs = aig.inputs();

@@ -2,7 +2,7 @@ ghost use Rattle.std.specs.Prelude.{◌≤◌};
 
 use crate::{Gate, NorNet, Pin, Width, lower};
 use pim_aig::{Aig, Lit, MAX_ANDS, MAX_OUTPUTS};
-use pim_graph::{order, usage};
+use pim_graph::{order, peak, usage};
 use std::alloc::Global;
 use std::test::Fail;
 
@@ -47,6 +47,12 @@ fn network(
     Ok(lower(alloc, &aig, width)?)
 }
 
+/// The peak of the order of a network's gates.
+fn peak_of(alloc: Global, network: &NorNet) -> Result<u32, Fail> {
+    let order = order(alloc, network.graph())?;
+    Ok(peak(alloc, network.graph(), &order)?)
+}
+
 /// The AND of two inputs: the complements of the inputs, the second one's first, and their NOR.
 #[test]
 fn and_of_two_inputs(rt: HostRuntime) -> Result<(), Fail> {
@@ -59,7 +65,11 @@ fn and_of_two_inputs(rt: HostRuntime) -> Result<(), Fail> {
     assert_eq!(rt; network.gates(), gates.as_slice());
     assert_eq!(rt; network.outs(), [Pin::Gate(2)].as_slice());
     assert_eq!(rt; network.nors(), 3);
-    assert_eq!(rt; usage(rt.alloc(), network.graph())?.as_slice(), [1, 1, 3].as_slice());
+    assert_eq!(rt;
+        usage(rt.alloc(), network.graph())?.as_slice(),
+        [1, 1, 3].as_slice()
+    );
+    assert_eq!(rt; peak_of(rt.alloc(), &network)?, 3);
     Ok(())
 }
 
@@ -91,6 +101,7 @@ fn exclusive_or(rt: HostRuntime) -> Result<(), Fail> {
         order(rt.alloc(), network.graph())?.as_slice(),
         [1, 2, 0, 3, 4, 5].as_slice()
     );
+    assert_eq!(rt; peak_of(rt.alloc(), &network)?, 3);
     Ok(())
 }
 
@@ -109,6 +120,7 @@ fn two_products(rt: HostRuntime) -> Result<(), Fail> {
         order(rt.alloc(), network.graph())?.as_slice(),
         [1, 0, 4, 2, 3, 5].as_slice()
     );
+    assert_eq!(rt; peak_of(rt.alloc(), &network)?, 3);
     Ok(())
 }
 
@@ -140,6 +152,7 @@ fn full_adder(alloc: Global, width: Width) -> Result<NorNet, Fail> {
 fn adders(rt: HostRuntime) -> Result<(), Fail> {
     let narrow = full_adder(rt.alloc(), Width::Two)?;
     assert_eq!(rt; narrow.nors(), 28);
+    assert_eq!(rt; peak_of(rt.alloc(), &narrow)?, 6);
     let wide = full_adder(rt.alloc(), Width::Four)?;
     assert_eq!(rt; wide.nors(), 14);
     assert_eq!(rt; wide.outs(), [Pin::Gate(8), Pin::Gate(13)].as_slice());
@@ -147,5 +160,6 @@ fn adders(rt: HostRuntime) -> Result<(), Fail> {
         order(rt.alloc(), wide.graph())?.as_slice(),
         [2, 1, 0, 6, 3, 4, 5, 7, 8, 9, 10, 11, 12, 13].as_slice()
     );
+    assert_eq!(rt; peak_of(rt.alloc(), &wide)?, 8);
     Ok(())
 }
