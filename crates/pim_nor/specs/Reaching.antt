@@ -11,7 +11,8 @@ use Rattle.pim_nor.specs.declared.network.Pin.TheVariants.{Gate as Place}
 -- the outputs reach the gate of a slot where one of them reads it, or a gate that they reach reads it
 pub data IsReached (g : AigView) (width : Width) : ℕ → Type 0 where
   by_output : {slot : ℕ} → Contains (roots g) (Place slot) → IsReached g width slot
-  by_gate : {reader slot : ℕ} → IsReached g width reader → Contains (pins (gate_at g (leaves g width) reader)) (Place slot) → IsReached g width slot
+  by_gate : {reader slot : ℕ} → IsReached g width reader →
+      Contains (pins (gate_at g (leaves g width) reader)) (Place slot) → IsReached g width slot
 
 -- whether the network has the gate of a slot
 abbrev pub is_kept : AigView → Width → ℕ → Bool

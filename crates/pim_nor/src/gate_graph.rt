@@ -48,7 +48,8 @@ fn put_gates_read(gates: &mut Vec<u32>, gate: Gate) -> Result<(), NoMemory>
 
 /// The graph of gates that read gates before them, without roots. Linear.
 fn rootless(alloc: Global, gates: &[Gate]) -> Result<Graph, NoMemory>
-    requires after { (k : ℕ) (d : Gate) → k < length gates.now → AreInputsOrFirst k (pins (slice_index_or gates.now k d)) }
+    requires after { (k : ℕ) (d : Gate) → k < length gates.now
+        → AreInputsOrFirst k (pins (slice_index_or gates.now k d)) }
     requires few { length gates.now < 2 ^ 27 }
     ensures { IfOk result (λ graph. graph ≡ record { kids = map gates_read gates.now; roots = [] }) }
 {
@@ -63,10 +64,12 @@ fn rootless(alloc: Global, gates: &[Gate]) -> Result<Graph, NoMemory>
 
 /// The graph of a network: what each gate reads, and as roots the gates of the outputs. Linear.
 pub(crate) fn graph_of(alloc: Global, gates: &[Gate], outs: &[Pin]) -> Result<Graph, NoMemory>
-    requires after { (k : ℕ) (d : Gate) → k < length gates.now → AreInputsOrFirst k (pins (slice_index_or gates.now k d)) }
+    requires after { (k : ℕ) (d : Gate) → k < length gates.now
+        → AreInputsOrFirst k (pins (slice_index_or gates.now k d)) }
     requires few { length gates.now < 2 ^ 27 }
     requires outs { AreInputsOrFirst (length gates.now) outs.now }
-    ensures { IfOk result (λ graph. graph ≡ record { kids = map gates_read gates.now; roots = gates_among outs.now }) }
+    ensures { IfOk result
+        (λ graph. graph ≡ record { kids = map gates_read gates.now; roots = gates_among outs.now }) }
 {
     let mut graph = rootless(alloc, gates)?;
     for out in outs {

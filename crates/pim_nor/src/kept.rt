@@ -76,7 +76,8 @@ impl Kept {
     pub(crate) fn gates(&self, alloc: Global, plan: &Plan) -> Result<Vec<Gate>, NoMemory>
         requires { length self.now ≡ slots plan.now.graph }
         ensures { IfOk result (λ gates. gates.items
-            ≡ kept (λ s. numbered_gate self.now (gate_at plan.now.graph (leaves plan.now.graph plan.now.width) s)) 0 self.now) }
+            ≡ kept (λ s. numbered_gate self.now
+            (gate_at plan.now.graph (leaves plan.now.graph plan.now.width) s)) 0 self.now) }
     {
         let mut gates = Vec::new(alloc);
         for slot in 0..plan.slots() {

@@ -33,10 +33,12 @@ pub fn lower(alloc: Global, aig: &Aig, width: Width) -> Result<NorNet, NoMemory>
         out_values network bits ≡ map (aval aig.now bits) aig.now.outputs) }
 
     // Of all gates that the graph can need, it has exactly those that the outputs reach.
-    ensures reached { OnOk result ((slot : ℕ) → IsTrue (is_kept aig.now width slot) ↔ IsReached aig.now width slot) }
+    ensures reached { OnOk result ((slot : ℕ) →
+        IsTrue (is_kept aig.now width slot) ↔ IsReached aig.now width slot) }
 
     // At width four there are no more NORs than at width two.
-    ensures no_more { OnOk result (nor_count (nors aig.now width_is.Four).gates ≤ nor_count (nors aig.now width_is.Two).gates) }
+    ensures no_more { OnOk result
+        (nor_count (nors aig.now width_is.Four).gates ≤ nor_count (nors aig.now width_is.Two).gates) }
 {
     let inputs = aig.inputs();
     let plan = Plan::new(alloc, aig, width)?;

@@ -91,8 +91,8 @@ impl<'a> Plan<'a> {
     /// The AND node whose operands a literal gives way to, if it does.
     fn opened(&self, literal: Lit) -> Option<And>
         requires { self.now.width ≡ width_is.Four }
-        ensures { result
-            ≡ (if gives_way self.now.graph literal then Some (and_at self.now.graph (node literal)) else None) }
+        ensures { result ≡ (if gives_way self.now.graph literal
+            then Some (and_at self.now.graph (node literal)) else None) }
     {
         if self.gives_way(literal) {
             Some(self.and_at(literal.node()))

@@ -12,7 +12,8 @@ use std::alloc::Global;
 fn count(counts: &mut Vec<u32>, literal: Lit)
     requires there { literal.0 < 2 * vec_len counts.old }
     requires room { slice_index counts.old.items (node literal) + 1 < 2 ^ 32 }
-    ensures counts { counts.new.items ≡ slice_set counts.old.items (node literal) (slice_index counts.old.items (node literal) + 1) }
+    ensures counts { counts.new.items ≡ slice_set counts.old.items (node literal)
+        (slice_index counts.old.items (node literal) + 1) }
     ensures len { vec_len counts.new ≡ vec_len counts.old }
 {
     counts[literal.node() as usize] += 1;
@@ -21,7 +22,8 @@ fn count(counts: &mut Vec<u32>, literal: Lit)
 /// How often each node is an operand of AND nodes. Linear.
 fn read_counts(alloc: Global, aig: &Aig) -> Result<Vec<u32>, NoMemory>
     ensures len { IfOk result (λ counts. vec_len counts ≡ nodes aig.now) }
-    ensures counts { IfOk result (λ counts. (n : ℕ) → n < nodes aig.now → slice_index counts.items n ≡ reads aig.now.ands n) }
+    ensures counts { IfOk result (λ counts. (n : ℕ) → n < nodes aig.now →
+        slice_index counts.items n ≡ reads aig.now.ands n) }
     ensures sound { IsAig aig.now }
 {
     let nodes = 1 + aig.inputs() as usize + aig.ands().len();
