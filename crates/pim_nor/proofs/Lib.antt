@@ -12,5 +12,6 @@ pub mod Numbering
 pub mod PrunedValues
 pub mod NetworkValues
 pub mod Reachable
+pub mod AllRead
 pub mod Fewer
 mod Examples

@@ -1,6 +1,8 @@
-use Rattle.std.proofs.Common.{sym, ◌∙◌, ap, subst}
+use Rattle.std.proofs.Common.{◌<◌, length, sym, ◌∙◌, ap, subst}
 use Rattle.pim_nor.specs.Network.{IsNetwork, NorView}
 use Rattle.pim_nor.specs.Values.{out_values}
+use Rattle.pim_nor.specs.Reaching.{IsRead}
+use Rattle.pim_nor.proofs.AllRead.{nors-IsRead}
 use Rattle.pim_nor.proofs.Fewer.{nor_count-narrower}
 use Rattle.pim_nor.proofs.NetworkValues.{out_values-nors}
 use Rattle.pim_nor.proofs.Reachable.{kept-reached, reached-kept}
@@ -31,3 +33,11 @@ returns-clause-reached c =
 
 pub returns-clause-no_more : goal.returns-clause-no_more
 returns-clause-no_more c = nor_count-narrower c.args.aig.now c.inputs-inputs.ensures.sound
+
+pub returns-clause-read : goal.returns-clause-read
+returns-clause-read c =
+    λ k there.
+    let e = returns-clause-network c in
+    let P : NorView → Type 0 = λ n. IsRead n k in
+    let l = (let Q : NorView → Type 0 = λ n. k < length n.gates in subst Q e there) in
+    subst P (sym e) (nors-IsRead c.args.aig.now c.inputs-inputs.ensures.sound c.args.width k l)
