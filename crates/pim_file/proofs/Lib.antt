@@ -1,1 +1,3 @@
 mod Examples
+pub mod FieldLemmas
+pub mod LabelLemmas

@@ -1,1 +1,5 @@
 pub mod Text
+pub mod Fields
+pub mod LineForms
+pub mod Steps
+pub mod Reading

@@ -1,8 +1,16 @@
-//! The program file: the text that a program is written as.
+//! The program file: the text that a program is written as, and read from.
 #![tactic(auto)]
 
+mod fault;
+mod fields;
+mod lines;
+mod parsing;
 mod printing;
+mod reader;
+mod section;
 mod text;
+
+pub use fault::FileFault;
 
 pub use printing::print;
 use text::Text;
