@@ -1,4 +1,5 @@
 pub mod Text
+pub mod Spelled
 pub mod Fields
 pub mod LineForms
 pub mod Steps

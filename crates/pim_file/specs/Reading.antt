@@ -150,10 +150,10 @@ with_fault draft (Some invalid) = Err (faults.Invalid invalid)
 abbrev pub validated : ProgramView → Result ProgramView FileFault
 validated draft = with_fault draft (fault_of draft)
 
--- the program of a draft that is not too large and has no fault
-abbrev pub judged : ProgramView → Result ProgramView FileFault
-judged draft = if nat_lt MAX_CELLS draft.cells then Err faults.TooLarge else validated draft
+-- a draft that has no more cells than a program may have
+abbrev pub sized : ProgramView → Result ProgramView FileFault
+sized draft = if nat_lt MAX_CELLS draft.cells then Err faults.TooLarge else Ok draft
 
 -- the program that a file is the text of
 unfoldable pub parse1_of : List ℕ → Result ProgramView FileFault
-parse1_of bytes = draft_of bytes >>= judged
+parse1_of bytes = draft_of bytes >>= sized >>= validated
