@@ -141,3 +141,88 @@ operand_at_is (f ∷ fs) x e =
 closed_is : (instr i : Instr) (fs : List (List ℕ)) → closed instr fs ≡ Some i → (fs ≡ []) × (instr ≡ i)
 closed_is instr i [] e = (refl, some_is instr i e)
 closed_is instr i (f ∷ fs) e = absurd cc
+
+not_is : (fs : List (List ℕ)) (i : Instr) → not_of fs ≡ Some i → IsFieldsOf (codes "not" ∷ fs) i
+unfolding not_of
+not_is fs i e =
+    let t = bind_some (number_at fs) (λ t. option_and_then (λ a. closed (Nor t.0 (Single a.0)) a.1) (number_at t.1)) i e in
+    let a = bind_some (number_at t.0.1) (λ a. closed (Nor t.0.0 (Single a.0)) a.1) i t.2 in
+    let first = number_at_is fs t.0 t.1 in
+    let second = number_at_is t.0.1 a.0 a.1 in
+    let end = closed_is (Nor t.0.0 (Single a.0.0)) i a.0.1 a.2 in
+    let whole : fs ≡ decimal t.0.0 ∷ decimal a.0.0 ∷ [] = first.0 ∙ ap (λ (r : List (List ℕ)). decimal t.0.0 ∷ r) (second.0 ∙ ap (λ (r : List (List ℕ)). decimal a.0.0 ∷ r) end.0) in
+    subst (λ j. IsFieldsOf (codes "not" ∷ fs) j) end.1 (ap (λ (r : List (List ℕ)). codes "not" ∷ r) whole, (first.1, (second.1, tt)))
+
+three_is : (t a b c : ℕ) (fs : List (List ℕ)) (i : Instr) → AreSpelled (t ∷ a ∷ b ∷ c ∷ []) → nor_from_three t a b c fs ≡ Some i → IsFieldsOf (codes "nor" ∷ decimal t ∷ decimal a ∷ decimal b ∷ decimal c ∷ fs) i
+three_is t a b c [] i h e = subst (λ j. IsFieldsOf (codes "nor" ∷ decimal t ∷ decimal a ∷ decimal b ∷ decimal c ∷ []) j) (some_is (Nor t (Three a b c)) i e) (refl, h)
+three_is t a b c (f ∷ fs) i h e =
+    let d = bind_some (plain_number f) (λ d. closed (Nor t (Four a b c d)) fs) i e in
+    let word = word_is_decimal f d.0 d.1 in
+    let end = closed_is (Nor t (Four a b c d.0)) i fs d.2 in
+    let last : f ∷ fs ≡ decimal d.0 ∷ [] = ap (λ (w : List ℕ). w ∷ fs) word.0 ∙ ap (λ (r : List (List ℕ)). decimal d.0 ∷ r) end.0 in
+    subst (λ j. IsFieldsOf (codes "nor" ∷ decimal t ∷ decimal a ∷ decimal b ∷ decimal c ∷ f ∷ fs) j) end.1
+    (ap (λ (r : List (List ℕ)). codes "nor" ∷ decimal t ∷ decimal a ∷ decimal b ∷ decimal c ∷ r) last, (h.0, (h.1.0, (h.1.1.0, (h.1.1.1.0, (word.1, tt))))))
+
+two_is : (t a b : ℕ) (fs : List (List ℕ)) (i : Instr) → AreSpelled (t ∷ a ∷ b ∷ []) → nor_from_two t a b fs ≡ Some i → IsFieldsOf (codes "nor" ∷ decimal t ∷ decimal a ∷ decimal b ∷ fs) i
+two_is t a b [] i h e = subst (λ j. IsFieldsOf (codes "nor" ∷ decimal t ∷ decimal a ∷ decimal b ∷ []) j) (some_is (Nor t (Two a b)) i e) (refl, h)
+two_is t a b (f ∷ fs) i h e =
+    let c = bind_some (plain_number f) (λ c. nor_from_three t a b c fs) i e in
+    let word = word_is_decimal f c.0 c.1 in
+    let others = three_is t a b c.0 fs i (h.0, (h.1.0, (h.1.1.0, (word.1, tt)))) c.2 in
+    (ap (λ (w : List ℕ). codes "nor" ∷ decimal t ∷ decimal a ∷ decimal b ∷ w ∷ fs) word.0 ∙ others.0, others.1)
+
+nor_is : (fs : List (List ℕ)) (i : Instr) → nor_of fs ≡ Some i → IsFieldsOf (codes "nor" ∷ fs) i
+unfolding nor_of
+nor_is fs i e =
+    let t = bind_some (number_at fs) (λ t. option_and_then (λ a. option_and_then (λ b. nor_from_two t.0 a.0 b.0 b.1) (number_at a.1)) (number_at t.1)) i e in
+    let a = bind_some (number_at t.0.1) (λ a. option_and_then (λ b. nor_from_two t.0.0 a.0 b.0 b.1) (number_at a.1)) i t.2 in
+    let b = bind_some (number_at a.0.1) (λ b. nor_from_two t.0.0 a.0.0 b.0 b.1) i a.2 in
+    let first = number_at_is fs t.0 t.1 in
+    let second = number_at_is t.0.1 a.0 a.1 in
+    let third = number_at_is a.0.1 b.0 b.1 in
+    let others = two_is t.0.0 a.0.0 b.0.0 b.0.1 i (first.1, (second.1, (third.1, tt))) b.2 in
+    let whole : fs ≡ decimal t.0.0 ∷ decimal a.0.0 ∷ decimal b.0.0 ∷ b.0.1 = first.0 ∙ ap (λ (r : List (List ℕ)). decimal t.0.0 ∷ r) (second.0 ∙ ap (λ (r : List (List ℕ)). decimal a.0.0 ∷ r) third.0) in
+    (ap (λ (r : List (List ℕ)). codes "nor" ∷ r) whole ∙ others.0, others.1)
+
+rm3_is : (fs : List (List ℕ)) (i : Instr) → rm3_of fs ≡ Some i → IsFieldsOf (codes "rm3" ∷ fs) i
+unfolding rm3_of
+rm3_is fs i e =
+    let p = bind_some (operand_at fs) (λ p. option_and_then (λ q. option_and_then (λ z. closed (Rm3 p.0 q.0 z.0) z.1) (cell_at q.1)) (operand_at p.1)) i e in
+    let q = bind_some (operand_at p.0.1) (λ q. option_and_then (λ z. closed (Rm3 p.0.0 q.0 z.0) z.1) (cell_at q.1)) i p.2 in
+    let z = bind_some (cell_at q.0.1) (λ z. closed (Rm3 p.0.0 q.0.0 z.0) z.1) i q.2 in
+    let first = operand_at_is fs p.0 p.1 in
+    let second = operand_at_is p.0.1 q.0 q.1 in
+    let third = cell_at_is q.0.1 z.0 z.1 in
+    let end = closed_is (Rm3 p.0.0 q.0.0 z.0.0) i z.0.1 z.2 in
+    let whole : fs ≡ operand_text p.0.0 ∷ operand_text q.0.0 ∷ (codes "@" ++ decimal z.0.0) ∷ [] = first.0 ∙ ap (λ (r : List (List ℕ)). operand_text p.0.0 ∷ r) (second.0 ∙ ap (λ (r : List (List ℕ)). operand_text q.0.0 ∷ r) (third.0 ∙ ap (λ (r : List (List ℕ)). (codes "@" ++ decimal z.0.0) ∷ r) end.0)) in
+    subst (λ j. IsFieldsOf (codes "rm3" ∷ fs) j) end.1 (ap (λ (r : List (List ℕ)). codes "rm3" ∷ r) whole, (first.1, second.1, third.1))
+
+init_is : (fs : List (List ℕ)) (i : Instr) → init_of fs ≡ Some i → IsFieldsOf (codes "init" ∷ fs) i
+init_is fs i e =
+    let m = mapped (λ (cells : List ℕ). Init cells) (numbers_of fs) i e in
+    let cells = fields_are_decimal fs m.0 m.1 in
+    subst (λ j. IsFieldsOf (codes "init" ∷ fs) j) m.2 (ap (λ (r : List (List ℕ)). codes "init" ∷ r) cells.0, cells.1)
+
+-- the same with the word still to be compared
+module _ (word : List ℕ) (fs : List (List ℕ)) (i : Instr) where
+  with_word : (literal : List ℕ) → bytes_eq word literal ≡ true → IsFieldsOf (literal ∷ fs) i → IsFieldsOf (word ∷ fs) i
+  with_word literal e h = (ap (λ (w : List ℕ). w ∷ fs) (is_text word literal e) ∙ h.0, h.1)
+
+  from_word : (is_init is_not is_nor is_rm3 : Bool) → bytes_eq word (codes "init") ≡ is_init → bytes_eq word (codes "not") ≡ is_not → bytes_eq word (codes "nor") ≡ is_nor → bytes_eq word (codes "rm3") ≡ is_rm3
+      → cond is_init (init_of fs) (cond is_not (not_of fs) (cond is_nor (nor_of fs) (cond is_rm3 (rm3_of fs) None))) ≡ Some i → IsFieldsOf (word ∷ fs) i
+  from_word true is_not is_nor is_rm3 p q r s e = with_word (codes "init") p (init_is fs i e)
+  from_word false true is_nor is_rm3 p q r s e = with_word (codes "not") q (not_is fs i e)
+  from_word false false true is_rm3 p q r s e = with_word (codes "nor") r (nor_is fs i e)
+  from_word false false false true p q r s e = with_word (codes "rm3") s (rm3_is fs i e)
+  from_word false false false false p q r s e = absurd cc
+
+fields_are_instr : (fs : List (List ℕ)) (i : Instr) → instr_of_fields fs ≡ Some i → IsFieldsOf fs i
+fields_are_instr [] i e = absurd cc
+fields_are_instr (word ∷ fs) i e = from_word word fs i (bytes_eq word (codes "init")) (bytes_eq word (codes "not")) (bytes_eq word (codes "nor")) (bytes_eq word (codes "rm3")) refl refl refl refl e
+
+-- a line that is read as an instruction is its line
+pub instr_is : (line : List ℕ) (i : Instr) → instr_of line ≡ Some i → (line ≡ instr_text i) × HasLine i
+unfolding instr_of
+instr_is line i e =
+    let h = fields_are_instr (fields line) i e in
+    (sym (join-fields line) ∙ ap (λ (fs : List (List ℕ)). join_with_byte 32 fs) h.0 ∙ join-instr i, h.1)
