@@ -5,4 +5,5 @@ pub mod LabelLemmas
 pub mod LimitLemmas
 pub mod LineLemmas
 pub mod NumberLemmas
+pub mod OneText
 pub mod ReadBack
