@@ -141,3 +141,172 @@ cycles_stand read line (Some d) next h e =
     let small : length d.instrs + m.0 < 2 ^ 32 = subst (λ (n : ℕ). n < 2 ^ 32) (sym count) number.1 in
     let stands : InstrsRead m.0 d (longer read line) = record { spelled = so_far ∙ counted ∙ closed; cells = h.cells; inputs = h.inputs; outputs = h.outputs; cycles = small; instrs = subst (λ (is : List Instr). AllByRecursion HasLine is) (sym h.no_instrs) tt } in
     subst (λ (n : Reading). Stands n (longer read line)) m.2 stands
+
+end_stands : (read line : List ℕ) (draft : Option ProgramView) (next : Reading) → ReadSo (section.Instrs 0) draft read → after_end draft line ≡ Some next → Stands next (longer read line)
+end_stands read line None next h e = absurd h
+end_stands read line (Some d) next h e =
+    let made : Reading = record { section = section.Ended; draft = Some d } in
+    let tests = cond_some (bytes_eq line (codes "end")) made next e in
+    let line_is : line ≡ codes "end" = (bytes_eq-Decides line (codes "end")).0 tests.0 in
+    let head = head_text d.target d.cells ++ ports_text (codes "input ") d.inputs ++ ports_text (codes "output ") d.outputs in
+    let count : length d.instrs + 0 ≡ length d.instrs = add-zero (length d.instrs) in
+    let so_far : longer read line ≡ head ++ counted_text (codes "cycles ") (length d.instrs + 0) ++ instrs_text d.instrs ++ codes "end\n" = ap (λ (r : List ℕ). longer r line) h.spelled ∙ ap (λ (l : List ℕ). longer (head ++ counted_text (codes "cycles ") (length d.instrs + 0) ++ instrs_text d.instrs) l) line_is in
+    let whole : head ++ counted_text (codes "cycles ") (length d.instrs + 0) ++ instrs_text d.instrs ++ codes "end\n" ≡ text_of d = ap (λ (n : ℕ). head ++ counted_text (codes "cycles ") n ++ instrs_text d.instrs ++ codes "end\n") count in
+    let small : length d.instrs < 2 ^ 32 = subst (λ (n : ℕ). n < 2 ^ 32) count h.cycles in
+    let stands : EndedRead d (longer read line) = record { spelled = so_far ∙ whole; has_text = record { cells = h.cells; inputs = h.inputs; outputs = h.outputs; cycles = small; instrs = h.instrs } } in
+    subst (λ (n : Reading). Stands n (longer read line)) tests.1 stands
+
+instr_stands : (read line : List ℕ) (left : ℕ) (draft : Option ProgramView) (next : Reading) → 0 < left → ReadSo (section.Instrs left) draft read → option_map (λ i. record { section = section.Instrs (left - 1); draft = with_instr draft i }) (instr_of line) ≡ Some next → Stands next (longer read line)
+instr_stands read line left None next some h e = absurd h
+instr_stands read line left (Some d) next some h e =
+    let m = mapped (λ (i : Instr). let made : Reading = record { section = section.Instrs (left - 1); draft = with_instr (Some d) i } in made) (instr_of line) next e in
+    let i = m.0 in
+    let spelled = instr_is line i m.1 in
+    let head = head_text d.target d.cells ++ ports_text (codes "input ") d.inputs ++ ports_text (codes "output ") d.outputs in
+    let n = length d.instrs + left in
+    let count : n ≡ length (d.instrs ++ i ∷ []) + (left - 1) = omega (arith, length_push d.instrs i) in
+    let so_far : longer read line ≡ (head ++ counted_text (codes "cycles ") n ++ instrs_text d.instrs) ++ (instr_text i ++ codes "\n") = ap (λ (r : List ℕ). longer r line) h.spelled ∙ ap (λ (l : List ℕ). longer (head ++ counted_text (codes "cycles ") n ++ instrs_text d.instrs) l) spelled.0 in
+    let pushed : (head ++ counted_text (codes "cycles ") n ++ instrs_text d.instrs) ++ (instr_text i ++ codes "\n") ≡ head ++ counted_text (codes "cycles ") n ++ instrs_text (d.instrs ++ i ∷ []) = append_assoc (head ++ counted_text (codes "cycles ") n) (instrs_text d.instrs) (instr_text i ++ codes "\n") ∙ ap (λ (t : List ℕ). head ++ counted_text (codes "cycles ") n ++ t) (sym (instrs_text-push d.instrs i)) in
+    let counted : head ++ counted_text (codes "cycles ") n ++ instrs_text (d.instrs ++ i ∷ []) ≡ head ++ counted_text (codes "cycles ") (length (d.instrs ++ i ∷ []) + (left - 1)) ++ instrs_text (d.instrs ++ i ∷ []) = ap (λ (k : ℕ). head ++ counted_text (codes "cycles ") k ++ instrs_text (d.instrs ++ i ∷ [])) count in
+    let small : length (d.instrs ++ i ∷ []) + (left - 1) < 2 ^ 32 = subst (λ (k : ℕ). k < 2 ^ 32) count h.cycles in
+    let stands : InstrsRead (left - 1) (record d { instrs = d.instrs ++ i ∷ [] }) (longer read line) = record { spelled = so_far ∙ pushed ∙ counted; cells = h.cells; inputs = h.inputs; outputs = h.outputs; cycles = small; instrs = all_push HasLine d.instrs i h.instrs spelled.1 } in
+    subst (λ (k : Reading). Stands k (longer read line)) m.2 stands
+
+instrs_stand : (read line : List ℕ) (zero_left : Bool) (left : ℕ) (draft : Option ProgramView) (next : Reading) → eqb left 0 ≡ zero_left → ReadSo (section.Instrs left) draft read
+    → cond zero_left (after_end draft line) (option_map (λ i. record { section = section.Instrs (left - 1); draft = with_instr draft i }) (instr_of line)) ≡ Some next → Stands next (longer read line)
+instrs_stand read line true left draft next z h e =
+    let none : left ≡ 0 = eqb-true left 0 z in
+    end_stands read line draft next (subst (λ (k : ℕ). ReadSo (section.Instrs k) draft read) none h) e
+instrs_stand read line false left draft next z h e =
+    let some : left ≡ 0 → ⊥ = eqb-false left 0 z in
+    instr_stands read line left draft next (omega arith) h e
+
+-- the first of two options, or the second
+
+or_is : {A : Type 0} (a b : Option A) (y : A) → option_or a b ≡ Some y → (a ≡ Some y) ⊎ (b ≡ Some y)
+or_is None b y e = inr e
+or_is (Some x) b y e = inl e
+
+outputs_stand : (read line : List ℕ) (draft : Option ProgramView) (next : Reading) → ReadSo section.Outputs draft read → after_outputs draft line ≡ Some next → Stands next (longer read line)
+outputs_stand read line draft next h e =
+    elim (or_is (after_output draft line) (after_cycles draft line) next e) [
+      | inl output ↦ output_stands read line draft next h output
+      | inr cycles ↦ cycles_stand read line draft next h cycles
+    ]
+
+-- behind the inputs the outputs begin
+no_outputs_yet : (read : List ℕ) (draft : Option ProgramView) → ReadSo section.Inputs draft read → ReadSo section.Outputs draft read
+no_outputs_yet read None h = h
+no_outputs_yet read (Some d) h =
+    let head = head_text d.target d.cells ++ ports_text (codes "input ") d.inputs in
+    record {
+      spelled = h.spelled ∙ sym (append-nil head) ∙ ap (λ (ps : List Port). head ++ ports_text (codes "output ") ps) (sym h.no_outputs);
+      cells = h.cells;
+      inputs = h.inputs;
+      outputs = subst (λ (ps : List Port). AllByRecursion HasPortLine ps) (sym h.no_outputs) tt;
+      no_instrs = h.no_instrs;
+    }
+
+inputs_stand : (read line : List ℕ) (draft : Option ProgramView) (next : Reading) → ReadSo section.Inputs draft read → after_inputs draft line ≡ Some next → Stands next (longer read line)
+inputs_stand read line draft next h e =
+    elim (or_is (after_input draft line) (after_outputs draft line) next e) [
+      | inl input ↦ input_stands read line draft next h input
+      | inr outputs ↦ outputs_stand read line draft next (no_outputs_yet read draft h) outputs
+    ]
+
+-- one more line that is right
+line_stands : (s : Section) (draft : Option ProgramView) (read line : List ℕ) (next : Reading) → ReadSo s draft read → after_in any_size s draft line ≡ Some next → Stands next (longer read line)
+line_stands section.Form draft read line next h e = form_stands read line draft next h e
+line_stands section.Target draft read line next h e = target_stands read line draft next h e
+line_stands (section.Cells target) draft read line next h e = cells_stand read line target next h e
+line_stands section.Inputs draft read line next h e = inputs_stand read line draft next h e
+line_stands section.Outputs draft read line next h e = outputs_stand read line draft next h e
+line_stands (section.Instrs left) draft read line next h e = instrs_stand read line (eqb left 0) left draft next refl h e
+line_stands section.Ended draft read line next h e = absurd cc
+
+-- the bytes of lines
+
+abbrev line_bytes : LineView → List ℕ
+line_bytes line = line.text ++ cond line.ended (codes "\n") []
+
+abbrev joined : List LineView → List ℕ
+joined [] = []
+joined (line ∷ others) = line_bytes line ++ joined others
+
+joined-last : (number place : ℕ) (run : List ℕ) → joined (last_line number place run) ≡ run
+joined-last number place [] = refl
+joined-last number place (b ∷ run) = append-nil ((b ∷ run) ++ []) ∙ append-nil (b ∷ run)
+
+joined-lines : (number place : ℕ) (run bytes : List ℕ) → joined (lines_after number place run bytes) ≡ run ++ bytes
+joined-lines number place run [] = joined-last number place run ∙ sym (append-nil run)
+joined-lines number place run (b ∷ bytes) = by_newline (is_newline b) refl (joined-lines (number + 1) (place + length run + 1) [] bytes) (joined-lines number place (run ++ b ∷ []) bytes)
+  where
+    by_newline : (t : Bool) → is_newline b ≡ t → joined (lines_after (number + 1) (place + length run + 1) [] bytes) ≡ bytes → joined (lines_after number place (run ++ b ∷ []) bytes) ≡ (run ++ b ∷ []) ++ bytes
+        → joined (cond t (record { number = number; start = place; text = run; ended = true } ∷ lines_after (number + 1) (place + length run + 1) [] bytes) (lines_after number place (run ++ b ∷ []) bytes)) ≡ run ++ b ∷ bytes
+    by_newline true t others same =
+        let b_is : b ≡ 10 = eqb-true b 10 t in
+        ap (λ (r : List ℕ). (run ++ codes "\n") ++ r) others ∙ append_assoc run (codes "\n") bytes ∙ ap (λ (c : ℕ). run ++ c ∷ bytes) (sym b_is)
+    by_newline false t others same = same ∙ append_assoc run (b ∷ []) bytes
+
+-- results, one after another
+
+abbrev done : {A : Type 0} → A → Result A FileFault
+done x = Ok x
+
+ok_is : {A : Type 0} (x y : A) → done x ≡ done y → x ≡ y
+ok_is x y e = cc
+
+pub bind_ok : {A B : Type 0} (r : Result A FileFault) (f : A → Result B FileFault) (y : B) → (r >>= f) ≡ Ok y → (x : A) × (r ≡ Ok x) × (f x ≡ Ok y)
+bind_ok (Ok x) f y e = (x, refl, e)
+bind_ok (Err fault) f y e = absurd cc
+
+or_fault : {A : Type 0} (o : Option A) (fault : FileFault) (y : A) → ok_or o fault ≡ Ok y → o ≡ Some y
+or_fault None fault y e = absurd cc
+or_fault (Some x) fault y e = ap (λ (z : _). Some z) (ok_is x y e)
+
+judged_line : (ended over : Bool) (o : Option Reading) (fault other : FileFault) (next : Reading) → (over ≡ true → o ≡ None) → cond (ended || over) (ok_or o fault) (Err other) ≡ Ok next → (ended ≡ true) × (o ≡ Some next)
+judged_line true over o fault other next h e = (refl, or_fault o fault next e)
+judged_line false true o fault other next h e = let some = or_fault o fault next e in let none = h refl in absurd cc
+judged_line false false o fault other next h e = absurd cc
+
+nothing_follows : (s : Section) (draft : Option ProgramView) (line : List ℕ) → is_ended s ≡ true → after_in any_size s draft line ≡ None
+nothing_follows section.Form draft line e = absurd cc
+nothing_follows section.Target draft line e = absurd cc
+nothing_follows (section.Cells target) draft line e = absurd cc
+nothing_follows section.Inputs draft line e = absurd cc
+nothing_follows section.Outputs draft line e = absurd cc
+nothing_follows (section.Instrs left) draft line e = absurd cc
+nothing_follows section.Ended draft line e = refl
+
+-- a line that is read has a newline, and is right
+line_read_is : (r : Reading) (line : LineView) (next : Reading) → line_read any_size r line ≡ Ok next → (line.ended ≡ true) × (after any_size r line.text ≡ Some next)
+line_read_is r line next e = judged_line line.ended (is_ended r.section) (after any_size r line.text) (faults.Line line.number) faults.Truncated next (nothing_follows r.section r.draft line.text) e
+
+end_is : (s : Section) (draft : Option ProgramView) (read : List ℕ) (d : ProgramView) → ReadSo s draft read → cond (is_ended s) (ok_or draft faults.TooLarge) (Err faults.Truncated) ≡ Ok d → EndedRead d read
+end_is section.Form draft read d h e = absurd cc
+end_is section.Target draft read d h e = absurd cc
+end_is (section.Cells target) draft read d h e = absurd cc
+end_is section.Inputs draft read d h e = absurd cc
+end_is section.Outputs draft read d h e = absurd cc
+end_is (section.Instrs left) draft read d h e = absurd cc
+end_is section.Ended None read d h e = absurd h
+end_is section.Ended (Some x) read d h e = subst (λ y. EndedRead y read) (ok_is x d e) h
+
+all_read : (r : Reading) (ls : List LineView) (read : List ℕ) (d : ProgramView) → Stands r read → read_from any_size r ls ≡ Ok d → EndedRead d (read ++ joined ls)
+all_read r [] read d h e = subst (λ (t : List ℕ). EndedRead d t) (sym (append-nil read)) (end_is r.section r.draft read d h e)
+all_read r (line ∷ others) read d h e =
+    let b = bind_ok (line_read any_size r line) (λ next. read_from any_size next others) d e in
+    let right = line_read_is r line b.0 b.1 in
+    let stands = line_stands r.section r.draft read line.text b.0 h right.1 in
+    let rest = all_read b.0 others (longer read line.text) d stands b.2 in
+    let bytes_are : line_bytes line ≡ line.text ++ codes "\n" = ap (λ (t : Bool). line.text ++ cond t (codes "\n") []) right.0 in
+    let regrouped : longer read line.text ++ joined others ≡ read ++ (line_bytes line ++ joined others) = append_assoc read (line.text ++ codes "\n") (joined others) ∙ ap (λ (t : List ℕ). read ++ (t ++ joined others)) (sym bytes_are) in
+    subst (λ (t : List ℕ). EndedRead d t) regrouped rest
+
+-- what is read as a draft is its text
+pub draft_is : (bytes : List ℕ) (d : ProgramView) → draft_of bytes ≡ Ok d → (bytes ≡ text_of d) × HasText d
+unfolding draft_of
+draft_is bytes d e =
+    let h = all_read start (lines bytes) [] d refl e in
+    let whole : joined (lines bytes) ≡ bytes = joined-lines 1 0 [] bytes in
+    (sym whole ∙ h.spelled, h.has_text)
