@@ -2,6 +2,7 @@ mod Examples
 pub mod FieldLemmas
 pub mod InstrLemmas
 pub mod LabelLemmas
+pub mod Laws
 pub mod LimitLemmas
 pub mod LineLemmas
 pub mod NumberLemmas

@@ -250,10 +250,10 @@ joined-lines number place run (b ∷ bytes) = by_newline (is_newline b) refl (jo
 
 -- results, one after another
 
-abbrev done : {A : Type 0} → A → Result A FileFault
+abbrev pub done : {A : Type 0} → A → Result A FileFault
 done x = Ok x
 
-ok_is : {A : Type 0} (x y : A) → done x ≡ done y → x ≡ y
+pub ok_is : {A : Type 0} (x y : A) → done x ≡ done y → x ≡ y
 ok_is x y e = cc
 
 pub bind_ok : {A B : Type 0} (r : Result A FileFault) (f : A → Result B FileFault) (y : B) → (r >>= f) ≡ Ok y → (x : A) × (r ≡ Ok x) × (f x ≡ Ok y)
