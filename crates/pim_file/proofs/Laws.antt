@@ -1,6 +1,6 @@
 -- The laws of reading and printing: a program's text is read as it, nothing else is, and a draft has few parts.
 use Rattle.std.proofs.Common.{◌≡◌, ℕ, ◌+◌, ◌*◌, ◌^◌, ◌<◌, ◌≤◌, Bool, true, false, cond, ltb, List, [], ◌∷◌, ◌++◌, length, map, Option, Some, None, Result, Ok, Err, codes, refl, ap, sym, ◌∙◌, subst, arith}
-use Rattle.std.specs.Prelude.{All}
+use Rattle.std.specs.Prelude.{All, IfOk}
 use Rattle.std.specs.Fmt.{decimal}
 use Rattle.std.specs.List.{AllByRecursion}
 use Rattle.std.proofs.lemmas.Bool.{le-ltb}
@@ -23,10 +23,10 @@ use Rattle.pim_isa.specs.Touches.{operands, operand_cells, names}
 use Rattle.pim_isa.specs.Validity.{fault_of}
 use Rattle.pim_file.specs.declared.fault.FileFault.{FileFault}
 use Rattle.pim_file.specs.declared.fault.FileFault.TheVariants as faults
-use Rattle.pim_file.specs.Spelled.{IsSpelledOperand, HasLine, HasPortLine, HasText}
-use Rattle.pim_file.specs.Steps.{◌>>=◌}
+use Rattle.pim_file.specs.Spelled.{IsSpelledOperand, HasLine, HasPortLine, HasText, HasFewParts}
+use Rattle.pim_file.specs.Steps.{◌>>=◌, Gives}
 use Rattle.pim_file.specs.Text.{instr_text, nor_text, counted_text, port_text, ports_text, instrs_text, head_text, text as text_of}
-use Rattle.pim_file.specs.Reading.{start, read_from, any_size, within_limit, draft_of, with_fault, validated, sized, parse1_of}
+use Rattle.pim_file.specs.Reading.{start, read_from, any_size, within_limit, draft_of, with_fault, validated, sized, parse1_of, program_within_limit}
 use Rattle.pim_file.proofs.LimitLemmas.{start_kept}
 use Rattle.pim_file.proofs.ReadBack.{draft_of-text}
 use Rattle.pim_file.proofs.OneText.{bind_ok, ok_is, draft_is}
@@ -69,11 +69,7 @@ six_pieces a b c d e f = simp length-append
 head_is_some : (target : Target) (cells : ℕ) → 1 ≤ length (head_text target cells)
 head_is_some target cells = omega arith
 
-pub record IsSmall (d : ProgramView) : Type 0 where
-  pub ports : length d.inputs + length d.outputs < 2 ^ 28
-  pub instrs : length d.instrs < 2 ^ 28
-
-small_text : (d : ProgramView) → length (text_of d) ≤ 536870912 → IsSmall d
+small_text : (d : ProgramView) → length (text_of d) ≤ 536870912 → HasFewParts d
 small_text d h =
     let whole = six_pieces (head_text d.target d.cells) (ports_text (codes "input ") d.inputs) (ports_text (codes "output ") d.outputs) (counted_text (codes "cycles ") (length d.instrs)) (instrs_text d.instrs) (codes "end\n") in
     let head = head_is_some d.target d.cells in
@@ -94,12 +90,16 @@ kept_draft_is bytes d e =
     let b = bind_ok (read_from any_size start (lines bytes)) sized d (sym (start_kept (lines bytes)) ∙ e) in
     b.1 ∙ ap (λ (x : ProgramView). let r : Result ProgramView FileFault = Ok x in r) (size_cases (ltb MAX_CELLS b.0.cells) b.0 d b.2)
 
-pub kept_is_small : (bytes : List ℕ) (d : ProgramView) → length bytes ≤ 536870912 → read_from within_limit start (lines bytes) ≡ Ok d → IsSmall d
+kept_is_small : (bytes : List ℕ) (d : ProgramView) → length bytes ≤ 536870912 → read_from within_limit start (lines bytes) ≡ Ok d → HasFewParts d
 kept_is_small bytes d h e =
     let text = draft_is bytes d (kept_draft_is bytes d e) in
     small_text d (subst (λ (t : List ℕ). length t ≤ 536870912) text.0 h)
 
-pub parse1_of-kept : (bytes : List ℕ) → parse1_of bytes ≡ (read_from within_limit start (lines bytes) >>= validated)
+pub kept_has_few : (bytes : List ℕ) (r : Result ProgramView FileFault) → length bytes ≤ 536870912 → r ≡ read_from within_limit start (lines bytes) → IfOk r HasFewParts
+kept_has_few bytes (Ok d) h e = kept_is_small bytes d h (sym e)
+kept_has_few bytes (Err fault) h e = tt
+
+pub parse1_of-kept : (bytes : List ℕ) → parse1_of bytes ≡ program_within_limit bytes
 unfolding parse1_of draft_of
 parse1_of-kept bytes = ap (λ (x : Result ProgramView FileFault). x >>= validated) (sym (start_kept (lines bytes)))
 
@@ -165,3 +165,10 @@ parse1_of-text p h =
     let fits : ltb MAX_CELLS p.cells ≡ false = le-ltb _ _ h.small in
     let faultless = h.faultless in
     rw (draft, fits, faultless) refl
+
+pub gives_program : (bytes : List ℕ) (r : Result ProgramView FileFault) → Gives (λ (p : ProgramView). p) r (program_within_limit bytes) → Gives (λ (p : ProgramView). p) r (parse1_of bytes)
+gives_program bytes r h = subst (λ (reading : Result ProgramView FileFault). Gives (λ (p : ProgramView). p) r reading) (sym (parse1_of-kept bytes)) h
+
+pub gives_text : (bytes : List ℕ) (r : Result ProgramView FileFault) → Gives (λ (p : ProgramView). p) r (program_within_limit bytes) → IfOk r (λ p. bytes ≡ text_of p)
+gives_text bytes (Ok p) h = program_is bytes p (gives_program bytes (Ok p) h)
+gives_text bytes (Err fault) h = tt

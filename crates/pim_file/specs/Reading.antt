@@ -157,3 +157,7 @@ sized draft = if nat_lt MAX_CELLS draft.cells then Err faults.TooLarge else Ok d
 -- the program that a file is the text of
 unfoldable pub parse1_of : List ℕ → Result ProgramView FileFault
 parse1_of bytes = draft_of bytes >>= sized >>= validated
+
+-- the same where a draft that is too large is dropped when it begins
+abbrev pub program_within_limit : List ℕ → Result ProgramView FileFault
+program_within_limit bytes = read_from within_limit start (lines bytes) >>= validated

@@ -32,3 +32,11 @@ impl From<NoMemory> for FileFault {
         FileFault::NoMemory
     }
 }
+
+impl From<Invalid> for FileFault {
+    ghost from_gives = { λ invalid fault. fault ≡ faults.Invalid invalid };
+
+    fn from(invalid: Invalid) -> FileFault {
+        FileFault::Invalid(invalid)
+    }
+}

@@ -11,7 +11,7 @@ mod section;
 mod text;
 
 pub use fault::FileFault;
-
+pub use parsing::{parse, parse_text};
 pub use printing::print;
 use text::Text;
 

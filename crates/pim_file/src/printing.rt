@@ -1,4 +1,5 @@
-ghost use Rattle.std.specs.Prelude.{◌≡◌, [], ◌∷◌, ◌++◌, length, OnOk, IfOk, codes, decimal};
+ghost use Rattle.std.specs.Prelude.{◌≡◌, [], ◌∷◌, ◌++◌, length, OnOk, IfOk, Ok, codes, decimal};
+ghost use Rattle.pim_file.specs.Reading.{parse1_of};
 ghost use Rattle.pim_file.specs.Text.{head_text, instr_text, instrs_text, nor_text, operand_text, port_text, ports_text, target_word, text as text_of};
 
 use crate::Text;
@@ -103,7 +104,10 @@ fn push_instrs(text: &mut Text, instrs: &[Instr]) -> Result<(), NoMemory>
 
 /// The text of a program, form 1. Linear in the program.
 pub fn print(alloc: Global, program: &Program) -> Result<Vec<u8>, NoMemory>
-    ensures { IfOk result (λ bytes. bytes.items ≡ text_of program.now) }
+    ensures text { IfOk result (λ bytes. bytes.items ≡ text_of program.now) }
+
+    // The text is read as the program again.
+    ensures again { IfOk result (λ bytes. parse1_of bytes.items ≡ Ok program.now) }
 {
     let mut text = Text::new(alloc);
     push_head(&mut text, program.target(), program.cells())?;
