@@ -12,7 +12,7 @@ use Rattle.pim_isa.specs.declared.instr.Operand.TheVariants.{Zero, One, Cell}
 use Rattle.pim_isa.specs.declared.instr.Instr.{Instr}
 use Rattle.pim_isa.specs.declared.instr.Instr.TheVariants.{Init, Nor, Rm3}
 use Rattle.pim_file.specs.Fields.{fields, behind, plain_number, number_at, numbers_of}
-use Rattle.pim_file.specs.LineForms.{cell_of, operand_of, operand_at, cell_at, closed, init_of, not_of, nor_from_two, nor_from_three, nor_of, rm3_of, instr_from, instr_of_fields, instr_of}
+use Rattle.pim_file.specs.InstrForms.{cell_of, operand_of, operand_at, cell_at, closed, init_of, not_of, nor_from_two, nor_from_three, nor_of, rm3_of, instr_from, instr_of_fields, instr_of}
 use Rattle.pim_file.specs.Spelled.{AreSpelled, IsSpelledOperand, HasLine}
 use Rattle.pim_file.specs.Text.{numbers_text, operand_text, nor_text, instr_text}
 use Rattle.pim_file.proofs.LineLemmas.{bind_some, some_is, behind_is, mapped}

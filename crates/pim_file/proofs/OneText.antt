@@ -17,7 +17,8 @@ use Rattle.pim_file.specs.declared.fault.FileFault.{FileFault}
 use Rattle.pim_file.specs.declared.fault.FileFault.TheVariants as faults
 use Rattle.pim_file.specs.declared.section.Section.{Section}
 use Rattle.pim_file.specs.declared.section.Section.TheVariants as section
-use Rattle.pim_file.specs.LineForms.{target_of, counted_of, port_of, instr_of}
+use Rattle.pim_file.specs.LineForms.{target_of, counted_of, port_of}
+use Rattle.pim_file.specs.InstrForms.{instr_of}
 use Rattle.pim_file.specs.Spelled.{HasLine, HasPortLine, HasText}
 use Rattle.pim_file.specs.Steps.{◌>>=◌}
 use Rattle.pim_file.specs.Text.{target_word, instr_text, counted_text, port_text, ports_text, instrs_text, head_text, text as text_of}

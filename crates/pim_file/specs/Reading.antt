@@ -15,7 +15,8 @@ use Rattle.pim_file.specs.declared.fault.FileFault.{FileFault}
 use Rattle.pim_file.specs.declared.fault.FileFault.TheVariants as faults
 use Rattle.pim_file.specs.declared.section.Section.{Section}
 use Rattle.pim_file.specs.declared.section.Section.TheVariants as section
-use Rattle.pim_file.specs.LineForms.{target_of, counted_of, port_of, instr_of}
+use Rattle.pim_file.specs.LineForms.{target_of, counted_of, port_of}
+use Rattle.pim_file.specs.InstrForms.{instr_of}
 use Rattle.pim_file.specs.Steps.{◌>>=◌}
 
 -- how far a file is read: which lines may come next, and the draft, which begins once the number of cells is told

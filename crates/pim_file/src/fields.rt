@@ -7,7 +7,7 @@ ghost use Rattle.pim_file.specs.Fields.{is_space, fields_left, behind, plain_num
 use std::marker::Model;
 
 /// Whether a text is this one.
-pub(crate) fn is(text: &[u8], other: &[u8]) -> bool
+pub(crate) fn is_text(text: &[u8], other: &[u8]) -> bool
     ensures { result ≡ bytes_eq text.now other.now }
 {
     text == other
@@ -30,7 +30,7 @@ pub(crate) fn first_space(text: &[u8]) -> Option<usize>
 
 /// The number below 2^32 that a word spells in decimal, without leading zeros.
 #[tactic(auto, unfolding(crate::specs::Fields::plain_number))]
-pub(crate) fn number(word: &[u8]) -> Option<u32>
+pub(crate) fn plain_number(word: &[u8]) -> Option<u32>
     ensures { result ≡ plain_number word.now }
 {
     if word.len() > 1 && word[0] == b'0' {
@@ -88,6 +88,6 @@ impl<'a> Fields<'a> {
             (number_at (fields_left self.old) ≡ None)
             (λ n. number_at (fields_left self.old) ≡ Some (n, fields_left self.new)) }
     {
-        number(self.field()?)
+        plain_number(self.field()?)
     }
 }

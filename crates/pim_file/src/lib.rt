@@ -3,6 +3,7 @@
 
 mod fault;
 mod fields;
+mod instrs;
 mod lines;
 mod parsing;
 mod printing;

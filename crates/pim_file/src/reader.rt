@@ -7,8 +7,9 @@ ghost use Rattle.pim_file.specs.Steps.{Gives};
 ghost use Rattle.pim_file.specs.Reading.{start, begun, with_input, with_output, with_instr, after_form, after_target, after_cells, after_input, after_output, after_cycles, after_outputs, after_inputs, after_end, after_instrs, after_in, after, is_ended, line_read, finished, within_limit};
 
 use crate::fault::FileFault;
-use crate::fields::is;
-use crate::lines::{PortLine, counted, instr, port, target};
+use crate::fields::is_text;
+use crate::instrs::instr;
+use crate::lines::{PortLine, counted, port, target};
 use crate::section::Section;
 use pim_io::{Line, NoMemory};
 use pim_isa::{Instr, MAX_CELLS, ProgramDraft, Target};
@@ -51,7 +52,7 @@ impl Reader {
     fn form(&mut self, line: &[u8]) -> bool
         ensures { after_form self.old.draft line.now ≡ (if result then Some self.new else None) }
     {
-        if !is(line, b"pim 1") {
+        if !is_text(line, b"pim 1") {
             return false;
         }
         self.section = Section::Target;
@@ -136,7 +137,7 @@ impl Reader {
     fn end(&mut self, line: &[u8]) -> bool
         ensures { after_end self.old.draft line.now ≡ (if result then Some self.new else None) }
     {
-        if !is(line, b"end") {
+        if !is_text(line, b"end") {
             return false;
         }
         self.section = Section::Ended;
@@ -161,7 +162,7 @@ impl Reader {
 
 impl Reader {
     /// The next line, without its newline; the answer is whether it is right there.
-    fn text(&mut self, line: &[u8]) -> Result<bool, NoMemory>
+    fn accept(&mut self, line: &[u8]) -> Result<bool, NoMemory>
         ensures { IfOk result (λ right. after within_limit self.old line.now ≡ (if right then Some self.new else None)) }
     {
         match self.section {
@@ -182,7 +183,7 @@ impl Reader {
         if !line.ended && self.section != Section::Ended {
             return Err(FileFault::Truncated);
         }
-        if !self.text(line.text)? {
+        if !self.accept(line.text)? {
             return Err(FileFault::Line(line.number));
         }
         Ok(())

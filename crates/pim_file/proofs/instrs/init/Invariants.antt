@@ -1,6 +1,6 @@
 use Rattle.std.proofs.Common.{◌≡◌, ◌++◌, length, option_map}
 use Rattle.pim_file.specs.Fields.{fields_left, numbers_of}
-use Rattle.pim_file.proofs.lines.init.Given as goal
+use Rattle.pim_file.proofs.instrs.init.Given as goal
 
 -- the cells so far, before those of the fields that are left, are the cells of all fields
 abbrev pub invariant-loop-field : goal.invariant-loop-field
