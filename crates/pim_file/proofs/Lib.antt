@@ -8,3 +8,4 @@ pub mod LineLemmas
 pub mod NumberLemmas
 pub mod OneText
 pub mod ReadBack
+mod ReadExamples

@@ -6,7 +6,7 @@ use pim_isa::Invalid;
 use thiserror::Error;
 
 /// Why bytes are no program file. Lines are counted from 1.
-#[derive(Debug, Drop, Error)]
+#[derive(Clone, Copy, Debug, PartialEq, Eq, Error)]
 pub enum FileFault {
     /// This line is the first that may not stand where it stands, or is not spelled as it is to be.
     #[error("a line is wrong")]
