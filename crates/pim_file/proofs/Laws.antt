@@ -1,6 +1,6 @@
 -- The laws of reading and printing: a program's text is read as it, nothing else is, and a draft has few parts.
 use Rattle.std.proofs.Common.{◌≡◌, ℕ, ◌+◌, ◌*◌, ◌^◌, ◌<◌, ◌≤◌, Bool, true, false, cond, ltb, List, [], ◌∷◌, ◌++◌, length, map, Option, Some, None, Result, Ok, Err, codes, refl, ap, sym, ◌∙◌, subst, arith}
-use Rattle.std.specs.Prelude.{All, IfOk}
+use Rattle.std.specs.Prelude.{◌↔◌, All, IfOk}
 use Rattle.std.specs.Fmt.{decimal}
 use Rattle.std.specs.List.{AllByRecursion}
 use Rattle.std.proofs.lemmas.Bool.{le-ltb}
@@ -172,3 +172,10 @@ gives_program bytes r h = subst (λ (reading : Result ProgramView FileFault). Gi
 pub gives_text : (bytes : List ℕ) (r : Result ProgramView FileFault) → Gives (λ (p : ProgramView). p) r (program_within_limit bytes) → IfOk r (λ p. bytes ≡ text_of p)
 gives_text bytes (Ok p) h = program_is bytes p (gives_program bytes (Ok p) h)
 gives_text bytes (Err fault) h = tt
+
+-- a draft is read from its text, and from no other bytes
+pub draft_of-iff : (bytes : List ℕ) (d : ProgramView) → (draft_of bytes ≡ Ok d) ↔ (HasText d × (bytes ≡ text_of d))
+draft_of-iff bytes d = (
+  λ e. let h = draft_is bytes d e in (h.1, h.0),
+  λ h. ap draft_of h.1 ∙ draft_of-text d h.0,
+)

@@ -145,6 +145,7 @@ port_is word line port e =
     let number = word_is_decimal (take space text) c.0 c.1 in
     let label = labelled_is c.0 (drop (space + 1) text) port c.2 in
     let cell_is : take space text ≡ decimal port.cell = number.0 ∙ ap decimal label.0 in
-    let text_is : text ≡ decimal port.cell ++ 32 ∷ port.label = space_cuts text space b.1 ∙ ap (λ (t : List ℕ). take space text ++ 32 ∷ t) label.1 ∙ ap (λ (t : List ℕ). t ++ 32 ∷ port.label) cell_is in
-    (behind_is word line text a.1 ∙ ap (λ (t : List ℕ). word ++ t) text_is ∙ sym (regroup_port word (decimal port.cell) port.label),
-    record { cell = subst (λ (n : ℕ). n < 2 ^ 32) label.0 number.1; label = subst IsLabel label.1 label.2 })
+    let text_is : text ≡ decimal port.cell ++ 32 ∷ port.label = space_cuts text space b.1 ∙ ap (λ (t : List ℕ). take space text ++ 32 ∷ t) label.1 ∙ ap (λ (t : List ℕ). t ++ 32 ∷ port.label) cell_is in (
+      behind_is word line text a.1 ∙ ap (λ (t : List ℕ). word ++ t) text_is ∙ sym (regroup_port word (decimal port.cell) port.label),
+      record { cell = subst (λ (n : ℕ). n < 2 ^ 32) label.0 number.1; label = subst IsLabel label.1 label.2 },
+    )

@@ -73,13 +73,13 @@ head = line (codes "pim 1") ++ line (codes "target magic") ++ line (codes "cells
 
 -- a NOT of cell 0 in cell 1
 not_program : parse1_of (head ++ line (codes "input 0 a") ++ line (codes "output 1 f") ++ line (codes "cycles 2") ++ line (codes "init 1") ++ line (codes "not 1 0") ++ line (codes "end"))
-  ≡ Ok (record {
-    target = Magic;
-    cells = 2;
-    inputs = record { cell = 0; label = codes "a" } ∷ [];
-    outputs = record { cell = 1; label = codes "f" } ∷ [];
-    instrs = Init (1 ∷ []) ∷ Nor 1 (ins.One 0) ∷ [];
-  })
+    ≡ Ok (record {
+      target = Magic;
+      cells = 2;
+      inputs = record { cell = 0; label = codes "a" } ∷ [];
+      outputs = record { cell = 1; label = codes "f" } ∷ [];
+      instrs = Init (1 ∷ []) ∷ Nor 1 (ins.One 0) ∷ [];
+    })
 unfolding parse1_of draft_of instr_of not_of plain_number number_of
 not_program = refl
 

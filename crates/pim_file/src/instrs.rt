@@ -76,7 +76,13 @@ fn not(mut fields: Fields) -> Option<Instr>
 {
     let t = fields.number()?;
     let a = fields.number()?;
-    closed(Instr::Nor { t, ins: Ins::One(a) }, fields)
+    closed(
+        Instr::Nor {
+            t,
+            ins: Ins::One(a),
+        },
+        fields,
+    )
 }
 
 /// A NOR of two to four operands.
@@ -88,14 +94,26 @@ fn nor(mut fields: Fields) -> Option<Instr>
     let a = fields.number()?;
     let b = fields.number()?;
     let Some(third) = fields.field() else {
-        return Some(Instr::Nor { t, ins: Ins::Two(a, b) });
+        return Some(Instr::Nor {
+            t,
+            ins: Ins::Two(a, b),
+        });
     };
     let c = plain_number(third)?;
     let Some(fourth) = fields.field() else {
-        return Some(Instr::Nor { t, ins: Ins::Three(a, b, c) });
+        return Some(Instr::Nor {
+            t,
+            ins: Ins::Three(a, b, c),
+        });
     };
     let d = plain_number(fourth)?;
-    closed(Instr::Nor { t, ins: Ins::Four(a, b, c, d) }, fields)
+    closed(
+        Instr::Nor {
+            t,
+            ins: Ins::Four(a, b, c, d),
+        },
+        fields,
+    )
 }
 
 /// An RM3.

@@ -1,9 +1,10 @@
-ghost use Rattle.std.specs.Prelude.{◌≡◌, ◌≤◌, length, IfOk};
+ghost use Rattle.std.specs.Prelude.{◌≡◌, ◌≤◌, ◌↔◌, length, Ok, IfOk};
 ghost use Rattle.pim_io.specs.Lines.{lines};
-ghost use Rattle.pim_file.specs.Spelled.{HasFewParts};
+ghost use Rattle.pim_isa.specs.Programs.{ProgramView};
+ghost use Rattle.pim_file.specs.Spelled.{HasText, HasFewParts};
 ghost use Rattle.pim_file.specs.Steps.{Gives};
 ghost use Rattle.pim_file.specs.Text.{text as text_of};
-ghost use Rattle.pim_file.specs.Reading.{start, read_from, within_limit, program_within_limit, parse1_of};
+ghost use Rattle.pim_file.specs.Reading.{start, read_from, within_limit, program_within_limit, draft_of, parse1_of};
 
 use crate::fault::FileFault;
 use crate::reader::Reader;
@@ -16,6 +17,9 @@ use std::alloc::Global;
 pub fn parse_text(alloc: Global, bytes: &[u8]) -> Result<Program, FileFault>
     requires { length bytes.now ≤ 536870912 }
     ensures exact { Gives (λ program. program) result (parse1_of bytes.now) }
+
+    // The draft is the one whose text the bytes are.
+    ensures draft { (d : ProgramView) → (draft_of bytes.now ≡ Ok d) ↔ (HasText d × (bytes.now ≡ text_of d)) }
 
     // No other bytes are read as this program.
     ensures spelled { IfOk result (λ program. bytes.now ≡ text_of program) }
