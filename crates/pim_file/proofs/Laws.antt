@@ -1,5 +1,5 @@
 -- The laws of reading and printing: a program's text is read as it, nothing else is, and a draft has few parts.
-use Rattle.std.proofs.Common.{◌≡◌, ℕ, ◌+◌, ◌*◌, ◌^◌, ◌<◌, ◌≤◌, Bool, true, false, cond, ltb, List, [], ◌∷◌, ◌++◌, length, map, Option, Some, None, Result, Ok, Err, codes, refl, ap, sym, ◌∙◌, subst, arith}
+use Rattle.std.proofs.Common.{◌≡◌, ℕ, ◌+◌, ◌*◌, ◌^◌, ◌<◌, ◌≤◌, Bool, true, false, cond, ltb, List, [], ◌∷◌, ◌++◌, length, map, Option, Some, None, Result, Ok, Err, codes, refl, take, ap, sym, ◌∙◌, subst, arith}
 use Rattle.std.specs.Prelude.{◌↔◌, All, IfOk}
 use Rattle.std.specs.Fmt.{decimal}
 use Rattle.std.specs.List.{AllByRecursion}
@@ -28,7 +28,7 @@ use Rattle.pim_file.specs.Steps.{◌>>=◌, Gives}
 use Rattle.pim_file.specs.Text.{instr_text, nor_text, counted_text, port_text, ports_text, instrs_text, head_text, text as text_of}
 use Rattle.pim_file.specs.Reading.{start, read_from, any_size, within_limit, draft_of, with_fault, validated, sized, parse1_of, program_within_limit}
 use Rattle.pim_file.proofs.LimitLemmas.{start_kept}
-use Rattle.pim_file.proofs.ReadBack.{draft_of-text}
+use Rattle.pim_file.proofs.ReadBack.{draft_of-text, draft_of-cut}
 use Rattle.pim_file.proofs.OneText.{bind_ok, ok_is, draft_is}
 
 -- a text is longer than twice its parts
@@ -165,6 +165,11 @@ parse1_of-text p h =
     let fits : ltb MAX_CELLS p.cells ≡ false = le-ltb _ _ h.small in
     let faultless = h.faultless in
     rw (draft, fits, faultless) refl
+
+-- no front of it is read as anything
+pub parse1_of-cut : (p : ProgramView) (k : ℕ) → IsProgram p → k < length (text_of p) → parse1_of (take k (text_of p)) ≡ Err faults.Truncated
+unfolding parse1_of
+parse1_of-cut p k h lt = let cut = draft_of-cut p k (program_has_text p h) lt in rw cut refl
 
 pub gives_program : (bytes : List ℕ) (r : Result ProgramView FileFault) → Gives (λ (p : ProgramView). p) r (program_within_limit bytes) → Gives (λ (p : ProgramView). p) r (parse1_of bytes)
 gives_program bytes r h = subst (λ (reading : Result ProgramView FileFault). Gives (λ (p : ProgramView). p) r reading) (sym (parse1_of-kept bytes)) h

@@ -1,7 +1,8 @@
-use Rattle.std.proofs.Common.{◌≡◌, ℕ, List, [], ◌++◌, ◌∙◌, ap, sym, subst, Ok, codes, length}
+use Rattle.std.proofs.Common.{◌≡◌, ℕ, ◌<◌, take, Err, List, [], ◌++◌, ◌∙◌, ap, sym, subst, Ok, codes, length}
 use Rattle.pim_file.specs.Text.{counted_text, head_text, instrs_text, ports_text, text as text_of}
+use Rattle.pim_file.specs.declared.fault.FileFault.TheVariants as faults
 use Rattle.pim_file.specs.Reading.{parse1_of}
-use Rattle.pim_file.proofs.Laws.{parse1_of-text}
+use Rattle.pim_file.proofs.Laws.{parse1_of-text, parse1_of-cut}
 use Rattle.pim_file.proofs.printing.print.Goals as goal
 
 -- six pieces, appended one after another to nothing
@@ -28,4 +29,5 @@ returns c =
     record {
       text = whole;
       again = subst (λ (t : List ℕ). parse1_of t ≡ Ok p) (sym whole) (parse1_of-text p c.target.ensures.valid);
+      cut = subst (λ (t : List ℕ). (k : ℕ) → k < length t → parse1_of (take k t) ≡ Err faults.Truncated) (sym whole) (λ k lt. parse1_of-cut p k c.target.ensures.valid lt);
     }
