@@ -1,5 +1,5 @@
 -- What is read as a draft is the text of that draft.
-use Rattle.std.proofs.Common.{◌≡◌, ℕ, suc, ◌+◌, ◌-◌, ◌^◌, ◌<◌, ◌≤◌, Bool, true, false, cond, eqb, ◌||◌, ◌⊎◌, inl, inr, List, [], ◌∷◌, ◌++◌, length, Option, Some, None, Result, Ok, Err, codes, refl, ap, sym, ◌∙◌, subst, append_assoc, add-zero, arith}
+use Rattle.std.proofs.Common.{◌≡◌, ℕ, ◌+◌, ◌-◌, ◌^◌, ◌<◌, Bool, true, false, cond, eqb, ◌||◌, ◌⊎◌, inl, inr, List, [], ◌∷◌, ◌++◌, length, Option, Some, None, Result, Ok, Err, codes, refl, ap, sym, ◌∙◌, subst, append_assoc, add-zero, arith}
 use Rattle.std.specs.Fmt.{decimal}
 use Rattle.std.specs.List.{AllByRecursion}
 use Rattle.std.specs.Option.{MatchOption, option_map, option_or, ok_or}
@@ -22,8 +22,8 @@ use Rattle.pim_file.specs.InstrForms.{instr_of}
 use Rattle.pim_file.specs.Spelled.{HasLine, HasPortLine, HasText}
 use Rattle.pim_file.specs.Steps.{◌>>=◌}
 use Rattle.pim_file.specs.Text.{target_word, instr_text, counted_text, port_text, ports_text, instrs_text, head_text, text as text_of}
-use Rattle.pim_file.specs.Reading.{Reading, start, begun, with_input, with_output, with_instr, after_form, after_target, after_cells, after_input, after_output, after_cycles, after_outputs, after_inputs, after_end, after_instrs, after_in, after, is_ended, line_read, finished, read_from, any_size, draft_of}
-use Rattle.pim_file.proofs.LineLemmas.{some_is, mapped, target_is, counted_is, port_line, port_is}
+use Rattle.pim_file.specs.Reading.{Reading, start, begun, with_input, with_output, with_instr, after_form, after_target, after_cells, after_input, after_output, after_cycles, after_outputs, after_inputs, after_end, after_in, after, is_ended, line_read, read_from, any_size, draft_of}
+use Rattle.pim_file.proofs.LineLemmas.{mapped, target_is, counted_is, port_is}
 use Rattle.pim_file.proofs.InstrLemmas.{instr_is}
 
 -- one more port, and one more instruction, at the end of a text

@@ -1,9 +1,7 @@
 -- Worked examples of reading, by computation.
 use Rattle.std.proofs.Common.{◌≡◌, ℕ, List, [], ◌∷◌, ◌++◌, Some, None, Ok, Err, codes, refl}
-use Rattle.std.specs.Fmt.{digits}
 use Rattle.pim_io.specs.Words.{number_of}
-use Rattle.pim_isa.specs.Programs.{ProgramView}
-use Rattle.pim_isa.specs.declared.target.Target.TheVariants.{Magic, Plim}
+use Rattle.pim_isa.specs.declared.target.Target.TheVariants.{Magic}
 use Rattle.pim_isa.specs.declared.instr.Ins.TheVariants as ins
 use Rattle.pim_isa.specs.declared.instr.Operand.TheVariants as operand
 use Rattle.pim_isa.specs.declared.instr.Instr.TheVariants.{Init, Nor, Rm3}
