@@ -26,7 +26,8 @@ use Rattle.pim_file.specs.declared.fault.FileFault.TheVariants as faults
 use Rattle.pim_file.specs.Spelled.{IsSpelledOperand, HasLine, HasPortLine, HasText, HasFewParts}
 use Rattle.pim_file.specs.Steps.{◌>>=◌, Gives}
 use Rattle.pim_file.specs.Text.{instr_text, nor_text, counted_text, port_text, ports_text, instrs_text, head_text, text as text_of}
-use Rattle.pim_file.specs.Reading.{start, read_from, any_size, within_limit, draft_of, with_fault, validated, sized, parse1_of, program_within_limit}
+use Rattle.pim_file.specs.Reading.{start}
+use Rattle.pim_file.specs.ProgramFile.{read_from, any_size, within_limit, draft_of, with_fault, validated, sized, parse1_of, program_within_limit}
 use Rattle.pim_file.proofs.LimitLemmas.{start_kept}
 use Rattle.pim_file.proofs.ReadBack.{draft_of-text, draft_of-cut}
 use Rattle.pim_file.proofs.OneText.{bind_ok, ok_is, draft_is}

@@ -22,7 +22,8 @@ use Rattle.pim_file.specs.declared.section.Section.TheVariants as section
 use Rattle.pim_file.specs.LineForms.{is_shown, is_label}
 use Rattle.pim_file.specs.Spelled.{AreSpelled, IsSpelledOperand, HasLine, HasPortLine, HasText}
 use Rattle.pim_file.specs.Text.{target_word, numbers_text, operand_text, nor_text, instr_text, counted_text, port_text, ports_text, instrs_text, head_text, text as text_of}
-use Rattle.pim_file.specs.Reading.{Reading, start, begun, after, is_ended, read_from, any_size, draft_of}
+use Rattle.pim_file.specs.Reading.{Reading, start, begun, after, is_ended}
+use Rattle.pim_file.specs.ProgramFile.{read_from, any_size, draft_of}
 use Rattle.pim_file.proofs.FieldLemmas.{lacks, lacks-append, lacks-decimal}
 use Rattle.pim_file.proofs.LabelLemmas.{is_label-from_IsLabel}
 use Rattle.pim_file.proofs.LineLemmas.{target_of-text, counted_of-text, port_line, port_of-text}

@@ -10,7 +10,7 @@ use Rattle.pim_file.specs.declared.fault.FileFault.TheVariants as faults
 use Rattle.pim_file.specs.Fields.{fields, plain_number}
 use Rattle.pim_file.specs.LineForms.{counted_of, port_of}
 use Rattle.pim_file.specs.InstrForms.{not_of, nor_of, rm3_of, instr_of}
-use Rattle.pim_file.specs.Reading.{draft_of, parse1_of}
+use Rattle.pim_file.specs.ProgramFile.{draft_of, parse1_of}
 
 zero_alone : plain_number (codes "0") ≡ Some 0
 unfolding plain_number number_of

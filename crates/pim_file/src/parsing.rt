@@ -4,7 +4,8 @@ ghost use Rattle.pim_isa.specs.Programs.{ProgramView};
 ghost use Rattle.pim_file.specs.Spelled.{HasText, HasFewParts};
 ghost use Rattle.pim_file.specs.Steps.{Gives};
 ghost use Rattle.pim_file.specs.Text.{text as text_of};
-ghost use Rattle.pim_file.specs.Reading.{start, read_from, within_limit, program_within_limit, draft_of, parse1_of};
+ghost use Rattle.pim_file.specs.Reading.{start};
+ghost use Rattle.pim_file.specs.ProgramFile.{read_from, within_limit, program_within_limit, draft_of, parse1_of};
 
 use crate::fault::FileFault;
 use crate::reader::Reader;
@@ -31,6 +32,9 @@ pub fn parse_text(alloc: Global, bytes: &[u8]) -> Result<Program, FileFault>
 pub fn parse(alloc: Global, bytes: &[u8]) -> Result<Program, FileFault>
     requires { length bytes.now ≤ 536870912 }
     ensures exact { Gives (λ program. program) result (parse1_of bytes.now) }
+
+    // No other bytes are read as this program.
+    ensures spelled { IfOk result (λ program. bytes.now ≡ text_of program) }
 {
     parse_text(alloc, bytes)
 }
