@@ -271,7 +271,7 @@ judged_line true over o fault other next h e = (refl, or_fault o fault next e)
 judged_line false true o fault other next h e = let some = or_fault o fault next e in let none = h refl in absurd cc
 judged_line false false o fault other next h e = absurd cc
 
-nothing_follows : (s : Section) (draft : Option ProgramView) (line : List ℕ) → is_ended s ≡ true → after_in any_size s draft line ≡ None
+pub nothing_follows : (s : Section) (draft : Option ProgramView) (line : List ℕ) → is_ended s ≡ true → after_in any_size s draft line ≡ None
 nothing_follows section.Form draft line e = absurd cc
 nothing_follows section.Target draft line e = absurd cc
 nothing_follows (section.Cells target) draft line e = absurd cc

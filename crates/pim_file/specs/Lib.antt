@@ -6,3 +6,4 @@ pub mod InstrForms
 pub mod Steps
 pub mod Reading
 pub mod ProgramFile
+pub mod Right
