@@ -1,8 +1,8 @@
 -- What is read as a draft is the text of that draft.
-use Rattle.std.proofs.Common.{◌≡◌, ℕ, ◌+◌, ◌-◌, ◌^◌, ◌<◌, Bool, true, false, cond, eqb, ◌||◌, ◌⊎◌, inl, inr, List, [], ◌∷◌, ◌++◌, length, Option, Some, None, Result, Ok, Err, codes, refl, ap, sym, ◌∙◌, subst, append_assoc, add-zero, arith}
+use Rattle.std.proofs.Common.{◌≡◌, ℕ, ◌+◌, ◌-◌, ◌^◌, ◌<◌, Bool, true, false, cond, eqb, ◌||◌, inl, inr, List, [], ◌∷◌, ◌++◌, length, Option, Some, None, Result, Ok, Err, codes, refl, ap, sym, ◌∙◌, subst, append_assoc, add-zero, arith}
 use Rattle.std.specs.Fmt.{decimal}
 use Rattle.std.specs.List.{AllByRecursion}
-use Rattle.std.specs.Option.{MatchOption, option_map, option_or, ok_or}
+use Rattle.std.specs.Option.{MatchOption, option_map, ok_or}
 use Rattle.std.specs.Str.{bytes_eq}
 use Rattle.std.proofs.lemmas.Bool.{eqb-true, eqb-false}
 use Rattle.std.proofs.lemmas.List.{append-nil, length_push}
@@ -24,7 +24,7 @@ use Rattle.pim_file.specs.Steps.{◌>>=◌}
 use Rattle.pim_file.specs.Text.{target_word, instr_text, counted_text, port_text, ports_text, instrs_text, head_text, text as text_of}
 use Rattle.pim_file.specs.Reading.{Reading, start, begun, with_input, with_output, with_instr, after_form, after_target, after_cells, after_input, after_output, after_cycles, after_outputs, after_inputs, after_end, after_in, after, is_ended, line_read}
 use Rattle.pim_file.specs.ProgramFile.{read_from, any_size, draft_of}
-use Rattle.pim_file.proofs.LineLemmas.{mapped, target_is, counted_is, port_is}
+use Rattle.pim_file.proofs.LineLemmas.{mapped, or_is, target_is, counted_is, port_is}
 use Rattle.pim_file.proofs.InstrLemmas.{instr_is}
 
 -- one more port, and one more instruction, at the end of a text
@@ -182,12 +182,6 @@ instrs_stand read line true left draft next z h e =
 instrs_stand read line false left draft next z h e =
     let some : left ≡ 0 → ⊥ = eqb-false left 0 z in
     instr_stands read line left draft next (omega arith) h e
-
--- the first of two options, or the second
-
-or_is : {A : Type 0} (a b : Option A) (y : A) → option_or a b ≡ Some y → (a ≡ Some y) ⊎ (b ≡ Some y)
-or_is None b y e = inr e
-or_is (Some x) b y e = inl e
 
 outputs_stand : (read line : List ℕ) (draft : Option ProgramView) (next : Reading) → ReadSo section.Outputs draft read → after_outputs draft line ≡ Some next → Stands next (longer read line)
 outputs_stand read line draft next h e =

@@ -1,8 +1,7 @@
 -- Reading goes on exactly behind lines that are right.
-use Rattle.std.proofs.Common.{◌≡◌, ℕ, suc, ◌+◌, ◌-◌, ◌<◌, ◌≤◌, Bool, true, false, cond, not, ltb, eqb, ◌&&◌, ◌||◌, ◌⊎◌, inl, inr, List, [], ◌∷◌, ◌++◌, Option, Some, None, Result, Ok, Err, codes, refl, ap, sym, ◌∙◌, subst, arith}
+use Rattle.std.proofs.Common.{◌≡◌, ℕ, ◌+◌, ◌-◌, Bool, true, false, cond, not, ltb, eqb, ◌&&◌, ◌||◌, ◌⊎◌, inl, inr, List, [], ◌∷◌, ◌++◌, Option, Some, None, Result, Ok, Err, codes, refl, ap, sym, ◌∙◌, subst, arith}
 use Rattle.std.specs.Fmt.{decimal}
 use Rattle.std.specs.Option.{option_map, option_or, ok_or, is_some}
-use Rattle.std.specs.Str.{bytes_eq}
 use Rattle.std.proofs.lemmas.Bool.{lt-ltb, le-ltb, eq-eqb, ne_eqb, eqb-true, eqb-false}
 use Rattle.std.proofs.lemmas.Option.{cond_some}
 use Rattle.std.proofs.lemmas.Slice.Eq.{bytes_eq-Decides}
@@ -26,10 +25,10 @@ use Rattle.pim_file.specs.LineForms.{target_of, counted_of, port_of}
 use Rattle.pim_file.specs.InstrForms.{instr_of}
 use Rattle.pim_file.specs.Steps.{◌>>=◌}
 use Rattle.pim_file.specs.Text.{target_word, nor_text, instr_text}
-use Rattle.pim_file.specs.Reading.{Reading, start, begun, with_input, with_output, with_instr, after_form, after_target, after_cells, after_input, after_output, after_cycles, after_outputs, after_inputs, after_end, after_instrs, after_in, after, is_ended, line_read}
-use Rattle.pim_file.specs.ProgramFile.{finished, read_from, any_size, draft_of, with_fault, validated, sized, parse1_of}
-use Rattle.pim_file.specs.Right.{is_form, is_target, is_cells, is_input, is_output, is_cycles, is_instr, is_end, cycles_and_more, cycles_before, right_in_body, right, is_complete, first_wrong, is_cut_off, wrong_line, is_truncated}
-use Rattle.pim_file.proofs.LineLemmas.{some_is, mapped, target_is, counted_is, port_line, port_is}
+use Rattle.pim_file.specs.Reading.{Reading, start, begun, with_input, with_output, with_instr, after_input, after_output, after_cycles, after_outputs, after_inputs, after_end, after_instrs, after_in, after, is_ended}
+use Rattle.pim_file.specs.ProgramFile.{read_from, any_size, draft_of, with_fault, validated, sized, parse1_of}
+use Rattle.pim_file.specs.Right.{is_form, is_cells, is_input, is_output, is_cycles, is_instr, is_end, cycles_and_more, cycles_before, right_in_body, right, is_complete, first_wrong, is_cut_off, wrong_line, is_truncated}
+use Rattle.pim_file.proofs.LineLemmas.{or_is, mapped, target_is, counted_is, port_line, port_is}
 use Rattle.pim_file.proofs.InstrLemmas.{instr_is}
 use Rattle.pim_file.proofs.OneText.{nothing_follows}
 
@@ -194,11 +193,6 @@ right_is section.Ended (last ∷ others) o line h =
     sym (over_body h.0 line) ∙ ap (λ (c : Option (ℕ × ℕ)). right_in_body c line) (sym h.1) ∙ subst (λ (l : List ℕ). right_in_body (cycles_before (l ∷ others)) line ≡ right (l ∷ others) line) (sym h.2) (sym (end_is_body others line))
 
 -- where a reading stands behind one more line
-
--- the first of two options, or the second
-or_is : {A : Type 0} (a b : Option A) (y : A) → option_or a b ≡ Some y → (a ≡ Some y) ⊎ (b ≡ Some y)
-or_is None b y e = inr e
-or_is (Some x) b y e = inl e
 
 abbrev Follows : Reading → List ℕ → List (List ℕ) → Type 0
 Follows next line before = Behind next.section (line ∷ before)

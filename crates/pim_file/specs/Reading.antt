@@ -1,6 +1,6 @@
 -- Reading the lines of a program file. They stand in this order: `pim 1`, the target, the cells, the inputs, the outputs,
 -- the number of cycles, as many instructions, and `end`.
-use Rattle.std.specs.Prelude.{ℕ, ◌-◌, ◌==◌, ◌||◌, Bool, true, false, if◌then◌else◌, List, [], ◌∷◌, ◌++◌, codes, Option, Some, None, option_map, Result, Ok, Err}
+use Rattle.std.specs.Prelude.{ℕ, ◌-◌, ◌==◌, ◌||◌, Bool, true, false, if◌then◌else◌, List, [], ◌∷◌, ◌++◌, codes, Option, Some, None, option_map, Result, Err}
 use Rattle.std.specs.Option.{option_or, ok_or}
 use Rattle.std.specs.Str.{bytes_eq}
 use Rattle.pim_io.specs.Lines.{LineView}
