@@ -89,7 +89,7 @@ after_instrs left draft line =
     then after_end draft line
     else option_map (λ instr. record { section = section.Instrs (left - 1); draft = with_instr draft instr }) (instr_of line)
 
--- the same by what may come next; nothing is right behind `end`
+-- how far a file is read after one more line, if that line is right by what may come next; nothing is right behind `end`
 abbrev pub after_in : (ProgramView → Option ProgramView) → Section → Option ProgramView → List ℕ → Option Reading
 after_in keep section.Form draft line = after_form draft line
 after_in keep section.Target draft line = after_target draft line
@@ -99,7 +99,7 @@ after_in keep section.Outputs draft line = after_outputs draft line
 after_in keep (section.Instrs left) draft line = after_instrs left draft line
 after_in keep section.Ended draft line = None
 
--- how far a file is read after one more line, if that line is right there
+-- the same behind a reading
 abbrev pub after : (ProgramView → Option ProgramView) → Reading → List ℕ → Option Reading
 after keep r line = after_in keep r.section r.draft line
 

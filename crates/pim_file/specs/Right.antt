@@ -13,22 +13,27 @@ use Rattle.pim_file.specs.InstrForms.{instr_of}
 abbrev pub is_form : List ℕ → Bool
 is_form line = bytes_eq line (codes "pim 1")
 
--- a line of each kind
+-- the line of a target
 abbrev pub is_target : List ℕ → Bool
 is_target line = is_some (target_of line)
 
+-- the line of the number of cells
 abbrev pub is_cells : List ℕ → Bool
 is_cells line = is_some (counted_of (codes "cells ") line)
 
+-- the line of an input
 abbrev pub is_input : List ℕ → Bool
 is_input line = is_some (port_of (codes "input ") line)
 
+-- the line of an output
 abbrev pub is_output : List ℕ → Bool
 is_output line = is_some (port_of (codes "output ") line)
 
+-- the line of the number of cycles
 abbrev pub is_cycles : List ℕ → Bool
 is_cycles line = is_some (counted_of (codes "cycles ") line)
 
+-- the line of an instruction
 abbrev pub is_instr : List ℕ → Bool
 is_instr line = is_some (instr_of line)
 
@@ -36,11 +41,12 @@ is_instr line = is_some (instr_of line)
 abbrev pub is_end : List ℕ → Bool
 is_end line = bytes_eq line (codes "end")
 
--- the number of cycles, and how many lines have followed the line that says it
+-- a number of cycles and how many lines have followed it, with one more line, which may say another number
 abbrev pub cycles_and_more : Option ℕ → Option (ℕ × ℕ) → Option (ℕ × ℕ)
 cycles_and_more (Some cycles) others = Some (cycles, 0)
 cycles_and_more None others = option_map (λ c. (c.0, c.1 + 1)) others
 
+-- the number on the last line of cycles, and how many lines have followed that line
 abbrev pub cycles_before : List (List ℕ) → Option (ℕ × ℕ)
 cycles_before [] = None
 cycles_before (last ∷ others) = cycles_and_more (counted_of (codes "cycles ") last) (cycles_before others)
