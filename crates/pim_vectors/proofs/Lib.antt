@@ -1,0 +1,5 @@
+pub mod Taking
+pub mod NextLemmas
+pub mod AfterLemmas
+pub mod TileLemmas
+mod Examples
