@@ -1,5 +1,5 @@
 -- Inputs and their marks.
-use Rattle.std.proofs.Common.{◌≡◌, ℕ, suc, zero, ◌<◌, ◌≤◌, ◌+◌, Bool, true, false, ◌||◌, cond, eqb, List, [], ◌∷◌, ◌++◌, length, get_or, set, arith, refl, sym, ap, ◌∙◌, add_comm, inl, inr, ◌⊎◌}
+use Rattle.std.proofs.Common.{◌≡◌, ℕ, ◌<◌, ◌+◌, Bool, true, false, ◌||◌, cond, eqb, List, [], ◌∷◌, ◌++◌, length, set, arith, refl, sym, ap, ◌∙◌, inl, inr, ◌⊎◌}
 use Rattle.std.specs.List.{list_any, count_by}
 use Rattle.std.proofs.lemmas.Bool.{eq-eqb, ne_eqb, cases_eq}
 use Rattle.std.proofs.lemmas.List.{length-set, get_or-set_same, get_or-set_other, length-append}
@@ -50,6 +50,7 @@ marks_more inputs marks sig are lt unmarked = record {
     by s (inr ne) =
         let t : eqb sig s ≡ false = ne_eqb sig s ne in
         get_or-set_other marks sig s true false (λ e. ne (sym e)) ∙ (are.same s ∙ sym (any_push inputs sig s ∙ (ap (λ b. list_any (λ i. eqb i s) inputs || b) t ∙ or_false (list_any (λ i. eqb i s) inputs))))
+
     same : (s : ℕ) → is_marked (set marks sig true) s ≡ list_any (λ i. eqb i s) (inputs ++ sig ∷ [])
     same s = by s (cases_eq sig s)
 

@@ -1,6 +1,6 @@
 -- The covers of a file: each `.names` statement begins one, and the statements up to the next that begins with a dot are its
 -- rows (BLIF 1992, "Logic Gates").
-use Rattle.std.specs.Prelude.{ℕ, ◌-◌, List, [], ◌∷◌, ◌++◌, Bool, true, false, length, take, take_while, map, slice_index_or, Option, Some, None, is_none, option_map}
+use Rattle.std.specs.Prelude.{ℕ, ◌-◌, List, [], ◌∷◌, ◌++◌, Bool, true, length, take, take_while, map, slice_index_or, Option, Some, None, is_none, option_map}
 use Rattle.std.specs.Option.{option_to_list}
 use Rattle.std.specs.Str.{bytes_eq}
 use Rattle.pim_net.specs.Covers.{CoverView}

@@ -1,7 +1,7 @@
 -- What a statement begins with: a directive, or the words of a row. The directives are those of Berkeley Logic Interchange
 -- Format (BLIF), University of California, Berkeley, 1992, "Models", "Logic Gates" and "Delay Constraints"; which of
 -- them are read, passed over or unsupported is this project's profile.
-use Rattle.std.specs.Prelude.{ℕ, ◌==◌, ◌||◌, ◌&&◌, nat_eq, List, [], ◌∷◌, Bool, if◌then◌else◌, codes, drop, slice_index_or, Option, Some, None, is_some}
+use Rattle.std.specs.Prelude.{ℕ, ◌==◌, ◌||◌, ◌&&◌, nat_eq, List, [], ◌∷◌, Bool, true, false, if◌then◌else◌, codes, drop, slice_index_or, Option, Some, None}
 use Rattle.std.specs.List.{starts_with}
 use Rattle.std.specs.Str.{bytes_eq}
 use Rattle.pim_blif.specs.Statements.{Statement}
@@ -58,3 +58,8 @@ directive s = directive_of (first_word s.words)
 -- the words behind the first
 abbrev pub arguments : Statement → List (List ℕ)
 arguments s = drop 1 s.words
+
+-- `.end` ends the model
+abbrev pub is_end : Option Directive → Bool
+is_end (Some End) = true
+is_end d = false

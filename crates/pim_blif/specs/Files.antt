@@ -2,7 +2,6 @@
 -- from the statements before it alone, and the first faulty one gives the fault; without one, the statements make a netlist.
 use Rattle.std.specs.Prelude.{ℕ, List, [], ◌∷◌, map, Option, Some, None, Result, Ok, Err, if◌then◌else◌}
 use Rattle.std.specs.Option.{option_or}
-use Rattle.std.specs.Result.{result_err}
 use Rattle.pim_io.specs.Names.{label}
 use Rattle.pim_net.specs.Netlist.{DraftView}
 use Rattle.pim_net.specs.Faults.{net_fault}
@@ -10,12 +9,9 @@ use Rattle.pim_net.specs.declared.fault.NetFault.{NetFault}
 use Rattle.pim_blif.specs.declared.fault.BlifFault.{BlifFault}
 use Rattle.pim_blif.specs.declared.fault.BlifFault.TheVariants as faults
 use Rattle.pim_blif.specs.Statements.{Statement, statements}
-use Rattle.pim_blif.specs.Judging.{Known, known_from, judged, without_cover}
+use Rattle.pim_blif.specs.StatementFaults.{fault_of}
+use Rattle.pim_blif.specs.Judging.{Known, without_cover}
 use Rattle.pim_blif.specs.Netlists.{names_of, netlist_of}
-
--- the fault of a statement, from the statements before it, the latest of which comes first
-abbrev pub fault_of : List Statement → Statement → Option BlifFault
-fault_of before s = result_err (judged (known_from before) s.line s.words)
 
 -- the fault of the first faulty statement, where these stand before, the latest first
 abbrev pub first_fault : List Statement → List Statement → Option BlifFault

@@ -1,5 +1,6 @@
--- How a statement is judged, from what the statements before it say.
-use Rattle.std.specs.Prelude.{ℕ, ◌-◌, ◌==◌, List, [], ◌∷◌, ◌++◌, Bool, true, false, not, if◌then◌else◌, length, reverse, drop, take, nat_lt, nat_le, slice_index_or, Option, Some, None, option_map, Result, Ok, Err}
+-- What a reader knows behind each statement, or the fault that it meets there: the fault is that of the statement, and what
+-- is known in the end is the netlist of the file (proofs/Faulty.antt and proofs/Whole.antt).
+use Rattle.std.specs.Prelude.{ℕ, ◌-◌, ◌==◌, List, [], ◌∷◌, ◌++◌, Bool, true, false, if◌then◌else◌, length, reverse, drop, nat_lt, nat_le, slice_index_or, Option, Some, None, option_map, Result, Ok, Err}
 use Rattle.std.specs.List.{list_any}
 use Rattle.std.specs.Option.{option_to_list}
 use Rattle.pim_io.specs.Names.{label}
@@ -12,11 +13,12 @@ use Rattle.pim_blif.specs.declared.fault.BlifFault.TheVariants as faults
 use Rattle.pim_blif.specs.declared.directive.Directive.{Directive}
 use Rattle.pim_blif.specs.declared.directive.Directive.TheVariants.{Model, Inputs, Outputs, Names, End, PassedOver, Unsupported}
 use Rattle.pim_blif.specs.Statements.{Statement}
-use Rattle.pim_blif.specs.Directives.{directive, directive_of, first_word}
-use Rattle.pim_blif.specs.Signals.{number_of, is_known, with_name}
+use Rattle.pim_blif.specs.Directives.{directive, directive_of, first_word, is_end}
+use Rattle.pim_blif.specs.Signals.{number_of, is_known}
 use Rattle.pim_blif.specs.Rows.{RowView, row_at}
 use Rattle.pim_blif.specs.Covers.{all_but_last, open_cover, ended_covers, equation_of}
 use Rattle.pim_blif.specs.Netlists.{names_of, inputs_of, outputs_of, draft_with}
+use Rattle.pim_blif.specs.StatementFaults.{unsupported}
 use Rattle.pim_blif.specs.Steps.{◌>>=◌}
 
 -- what the statements before a statement say: the names of the signals; the inputs, the outputs and the covers that were
@@ -27,11 +29,6 @@ pub record Known : Type 0 where
   pub cover : Option Equation
   pub started : Bool
   pub ended : Bool
-
--- `.end` ends the model
-abbrev pub is_end : Option Directive → Bool
-is_end (Some End) = true
-is_end d = false
 
 -- what these statements say, the latest of which comes first
 abbrev pub known_from : List Statement → Known
@@ -132,10 +129,6 @@ without_cover k = record k {
   started = true;
 }
 
--- a directive that is not supported, told by the label of its first 4,096 bytes
-abbrev pub unsupported : ℕ → List ℕ → BlifFault
-unsupported line word = faults.Unsupported line (label (take 4096 word))
-
 -- whether a statement may stand: `.model` stands before every other statement, and behind `.end` no other may stand
 abbrev pub allowed : ℕ → Known → List (List ℕ) → Option Directive → Result Known BlifFault
 allowed line k words (Some Model) = if k.started then Err (unsupported line (first_word words)) else Ok k
@@ -152,15 +145,15 @@ directed line k words PassedOver = Ok k
 directed line k words Unsupported = Err (unsupported line (first_word words))
 
 -- what is known behind a statement that may stand
-abbrev pub stated : ℕ → Known → List (List ℕ) → Option Directive → Result Known BlifFault
-stated line k words None = row_of line k k.cover words
-stated line k words (Some d) = directed line (without_cover k) words d
+abbrev pub known_behind : ℕ → Known → List (List ℕ) → Option Directive → Result Known BlifFault
+known_behind line k words None = row_of line k k.cover words
+known_behind line k words (Some d) = directed line (without_cover k) words d
 
 -- what is known behind a statement of a line with these words, or its fault
 abbrev pub judged : Known → ℕ → List (List ℕ) → Result Known BlifFault
 judged k line words =
     allowed line k words (directive_of (first_word words)) >>= λ k.
-    stated line k words (directive_of (first_word words))
+    known_behind line k words (directive_of (first_word words))
 
 -- what is known behind further statements, or the fault of the first faulty one
 abbrev pub known_after : Known → List Statement → Result Known BlifFault

@@ -8,5 +8,6 @@ pub mod Readers
 pub mod Reading
 pub mod Rows
 pub mod Signals
+pub mod StatementFaults
 pub mod Statements
 pub mod Steps

@@ -1,5 +1,5 @@
 -- The netlist that the statements of a file without a fault make.
-use Rattle.std.specs.Prelude.{ℕ, List, [], ◌∷◌, ◌++◌, false, map, Option, Some, None}
+use Rattle.std.specs.Prelude.{ℕ, List, [], false, map, Option, Some}
 use Rattle.std.specs.List.{flat_map}
 use Rattle.pim_io.specs.Names.{label}
 use Rattle.pim_net.specs.Netlist.{DraftView}

@@ -59,9 +59,9 @@ unfoldable pub row_at : ℕ → ℕ → Option Bool → List (List ℕ) → Resu
 row_at line width first words =
     if length words == row_words width
     then (ok_or (value_of (output_of words)) (faults.Syntax line) >>= λ value.
-      if length (pattern_of words) == width
-      then (if list_all is_cell (pattern_of words)
-        then (if is_mixed first value then Err (faults.MixedPhase line) else Ok (record { cells = cells_of (pattern_of words); value = value }))
-        else Err (faults.Syntax line))
-      else Err (faults.RowWidth line))
+    if length (pattern_of words) == width
+    then (if list_all is_cell (pattern_of words)
+    then (if is_mixed first value then Err (faults.MixedPhase line) else Ok (record { cells = cells_of (pattern_of words); value = value }))
+    else Err (faults.Syntax line))
+    else Err (faults.RowWidth line))
     else Err (faults.Syntax line)

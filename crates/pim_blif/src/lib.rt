@@ -17,3 +17,6 @@ mod words;
 
 pub use fault::BlifFault;
 pub use file::read;
+
+#[cfg(test)]
+mod tests;

@@ -2,7 +2,8 @@ ghost use Rattle.std.specs.Prelude.{◌≡◌, ◌+◌, ◌<◌, ◌≤◌, ◌^
 ghost use Rattle.pim_io.specs.Names.{label};
 ghost use Rattle.pim_blif.specs.Reading.{texts};
 ghost use Rattle.pim_blif.specs.Readers.{words_used};
-ghost use Rattle.pim_blif.specs.Judging.{unsupported, allowed, directed, judged, without_cover};
+ghost use Rattle.pim_blif.specs.Judging.{allowed, directed, judged, without_cover};
+ghost use Rattle.pim_blif.specs.StatementFaults.{unsupported};
 ghost use Rattle.pim_blif.specs.Steps.{Gives};
 
 use super::Reader;

@@ -1,4 +1,3 @@
-use Rattle.std.proofs.Common.{arith}
 use Rattle.pim_blif.proofs.Readings.{has_bytes}
 use Rattle.pim_blif.proofs.signals.signals.Goals as goal
 

@@ -1,4 +1,4 @@
-use Rattle.std.proofs.Common.{◌≡◌, ◌<◌, List, All, length, drop}
+use Rattle.std.proofs.Common.{◌≡◌, ◌<◌, All, length, drop}
 use Rattle.pim_blif.specs.Reading.{texts}
 use Rattle.pim_blif.specs.Judging.{numbered}
 use Rattle.pim_blif.proofs.Readings.{with_numbers}

@@ -8,5 +8,5 @@ use Rattle.pim_blif.proofs.words.arguments.Goals as goal
 pub returns-clause-bytes : goal.returns-clause-bytes
 returns-clause-bytes c =
     let rest : texts (take (length c.args.words.now - 1) (drop 1 c.args.words.now)) ≡ drop 1 (texts c.args.words.now) =
-      ap texts (take_rest c.args.words.now 1) ∙ sym (drop-map (λ (slice : Bor (List ℕ)). slice.now) 1 c.args.words.now) in
+    ap texts (take_rest c.args.words.now 1) ∙ sym (drop-map (λ (slice : Bor (List ℕ)). slice.now) 1 c.args.words.now) in
     All-same (λ (word : List ℕ). 0 < length word) _ _ rest (All-drop (λ (word : List ℕ). 0 < length word) 1 (texts c.args.words.now) c.requires.bytes)
