@@ -1,0 +1,6 @@
+pub mod BitLemmas
+pub mod RuleLemmas
+pub mod ColumnLemmas
+pub mod StepLemmas
+pub mod BankLemmas
+mod Examples

@@ -1,0 +1,9 @@
+use Rattle.pim_lanes.specs.Rules.{nor2_word}
+use Rattle.pim_lanes.proofs.RuleLemmas.{ruled_none, vector_next}
+use Rattle.pim_lanes.proofs.kernels.nor2_vectors.Goals as goal
+
+pub loop-i-init : goal.loop-i-init
+loop-i-init c = ruled_none nor2_word 0 _ _ _
+
+pub loop-i-preserved : goal.loop-i-preserved
+loop-i-preserved c = vector_next nor2_word c.loop-i.i _ _ _ _ _ c.loop-i.invariant c.nor2_vector.ensures

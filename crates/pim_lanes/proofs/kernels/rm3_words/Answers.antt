@@ -1,0 +1,10 @@
+use Rattle.std.proofs.Common.{arith}
+use Rattle.pim_lanes.specs.Rules.{rm3_word}
+use Rattle.pim_lanes.proofs.RuleLemmas.{ruled_none, word_next}
+use Rattle.pim_lanes.proofs.kernels.rm3_words.Goals as goal
+
+pub loop-k-init : goal.loop-k-init
+loop-k-init c = ruled_none rm3_word c.args.from _ _ _
+
+pub loop-k-preserved : goal.loop-k-preserved
+loop-k-preserved c = word_next rm3_word c.args.from c.loop-k.k _ _ _ _ (omega arith) (omega arith) c.loop-k.invariant

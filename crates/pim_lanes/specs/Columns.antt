@@ -1,0 +1,13 @@
+-- Columns of words that stand one after another in one list.
+use Rattle.std.specs.Prelude.{◌≡◌, ◌≢◌, ℕ, ◌*◌, ◌<◌, Bool, List, length, take, drop}
+use Rattle.pim_lanes.specs.Lanes.{lane}
+
+-- column c of columns of so many words
+unfoldable pub column_in : ℕ → List ℕ → ℕ → List ℕ
+column_in words buffer c = take words (drop (c * words) buffer)
+
+-- lane r of column t is v r now, and all other columns are as they were
+pub record Stored (words t : ℕ) (v : ℕ → Bool) (old new : List ℕ) : Type 0 where
+  pub same : length new ≡ length old
+  pub target : (r : ℕ) → r < 64 * words → lane (column_in words new t) r ≡ v r
+  pub others : (c : ℕ) → c ≢ t → column_in words new c ≡ column_in words old c

@@ -1,0 +1,11 @@
+-- Lanes: the bits of a list of words, 64 to a word.
+use Rattle.std.specs.Prelude.{ℕ, ◌/◌, ◌%◌, ◌==◌, Bool, List, slice_index}
+use Rattle.std.specs.Int.{bit_at}
+
+-- bit i of a word is one
+unfoldable pub is_set : ℕ → ℕ → Bool
+is_set n i = bit_at n i == 1
+
+-- lane r of the words is bit r mod 64 of word r / 64, and false past them
+unfoldable pub lane : List ℕ → ℕ → Bool
+lane words r = is_set (slice_index words (r / 64)) (r % 64)

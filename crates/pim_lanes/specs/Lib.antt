@@ -1,0 +1,4 @@
+pub mod Lanes
+pub mod Rules
+pub mod Columns
+pub mod Banks

@@ -1,0 +1,233 @@
+ghost use Rattle.std.specs.Prelude.{◌≡◌, ◌≢◌, ℕ, ◌+◌, ◌<◌, ◌≤◌, ◌&&◌, ◌||◌, not, true, false, length, replicate, slice_set, IfOk, All};
+ghost use Rattle.pim_isa.specs.Steps.{bit, majority, set_ones, step, exec};
+ghost use Rattle.pim_isa.specs.Results.{fill_bit};
+ghost use Rattle.pim_lanes.specs.Lanes.{lane};
+ghost use Rattle.pim_lanes.specs.Banks.{column_of, row_of, IsRow, IsBank, SameFrame, FitsCells, column_for, fill_word};
+
+use crate::columns;
+use pim_io::NoMemory;
+use pim_isa::{Fill, Instr, Ins, MAX_CELLS, Operand, Program};
+use std::alloc::Global;
+use std::marker::Model;
+
+/// Rows of cells side by side: a column of words for each cell, with a lane of each column for each row. One list has all
+/// columns; behind those of the cells stand a column of zeros and a column of ones, which are never written.
+#[derive(Debug, Drop)]
+pub struct Bank {
+    buffer: Vec<u64>,
+    cells: u32,
+    words: usize,
+}
+
+impl Model for Bank {
+    ghost use Rattle.pim_lanes.specs.Lanes.{lane};
+ghost use Rattle.pim_lanes.specs.Banks.{BankView, IsBank};
+
+    ghost Value = { BankView };
+
+    ghost view = { λ b. record { cells = b.cells; words = b.words; buffer = b.buffer.items } };
+
+    ghost invariant = { λ b. IsBank (record { cells = b.cells; words = b.words; buffer = b.buffer.items }) };
+}
+
+impl Bank {
+    /// A bank of that many cells, and 64 rows for each word of a column, all zero. Takes memory for the cells and the two
+    /// constant columns at once.
+    pub fn new(alloc: Global, cells: u32, words: usize) -> Result<Bank, NoMemory>
+        requires small { cells ≤ MAX_CELLS }
+        requires short { words ≤ 64 }
+        ensures cells { IfOk result (λ bank. bank.cells ≡ cells) }
+        ensures words { IfOk result (λ bank. bank.words ≡ words) }
+        ensures rows { IfOk result (λ bank. (r : ℕ) → IsRow bank r → row_of bank r ≡ replicate cells false) }
+        ensures bank { IfOk result IsBank }
+    {
+        let columns = cells as usize + 2;
+        let mut buffer = vec![in alloc; 0; columns * words]?;
+        columns::set_column(&mut buffer, words, cells as usize + 1);
+        Ok(Bank {
+            buffer,
+            cells,
+            words,
+        })
+    }
+
+    /// Fills all cells of all rows. Linear in the cells and words.
+    pub fn fill(&mut self, fill: Fill)
+        ensures rows { (r : ℕ) → IsRow self.old r → row_of self.new r ≡ replicate self.old.cells (fill_bit fill) }
+        ensures frame { SameFrame self.old self.new }
+    {
+        let cells = self.cells as usize;
+        columns::fill_columns(&mut self.buffer, self.words, cells, fill_word(fill));
+    }
+
+    /// The words of a cell's column, or of the column of zeros or of ones behind the cells.
+    pub fn column(&self, c: u32) -> &[u64]
+        requires { c < self.now.cells + 2 }
+        ensures value { result.now ≡ column_of self.now c }
+        ensures long { length result.now ≡ self.now.words }
+        ensures bank { IsBank self.now }
+    {
+        let start = c as usize * self.words;
+        &self.buffer[start..start + self.words]
+    }
+
+    /// Writes the words of a cell's column.
+    pub fn put_column(&mut self, c: u32, words: &[u64])
+        requires cell { c < self.old.cells }
+        requires long { length words.now ≡ self.old.words }
+        ensures rows { (r : ℕ) → IsRow self.old r → row_of self.new r ≡ slice_set (row_of self.old r) c (lane words.now r) }
+        ensures frame { SameFrame self.old self.new }
+    {
+        columns::put_column(&mut self.buffer, self.words, c as usize, words);
+    }
+
+    /// Executes one instruction in every row, as the machine does in one row. The cost is a kernel's for each cell that an
+    /// Init names, one kernel for a NOR of one or two operands and for an RM3, and two kernels for other NORs.
+    pub fn apply(&mut self, instr: &Instr)
+        requires { FitsCells self.old.cells instr.now }
+        ensures rows { (r : ℕ) → IsRow self.old r → row_of self.new r ≡ step (row_of self.old r) instr.now }
+        ensures frame { SameFrame self.old self.new }
+    {
+        match instr {
+            Instr::Init(cells) => self.init(cells.list()),
+            Instr::Nor { t, ins } => self.nor(*t, *ins),
+            Instr::Rm3 { p, q, z } => self.rm3(*p, *q, *z),
+        }
+    }
+
+    /// Executes the instructions of a program in every row, as the machine does in one row.
+    pub fn run(&mut self, program: &Program)
+        requires { program.now.cells ≤ self.old.cells }
+        ensures rows { (r : ℕ) → IsRow self.old r → row_of self.new r ≡ exec program.now.instrs (row_of self.old r) }
+        ensures frame { SameFrame self.old self.new }
+    {
+        for instr in program.instrs() {
+            self.apply(instr);
+        }
+    }
+
+    /// Sets cells to one.
+    fn init(&mut self, cells: &[u32])
+        requires { All (λ c. c < self.old.cells) cells.now }
+        ensures rows { (r : ℕ) → IsRow self.old r → row_of self.new r ≡ set_ones cells.now (row_of self.old r) }
+        ensures frame { SameFrame self.old self.new }
+    {
+        for cell in cells {
+            self.set(*cell);
+        }
+    }
+
+    /// Executes a NOR of one to four operands. The third and the fourth are a second NOR into what the first one left.
+    fn nor(&mut self, t: u32, ins: Ins)
+        requires { FitsCells self.old.cells (Instr.Nor t ins) }
+        ensures rows { (r : ℕ) → IsRow self.old r → row_of self.new r ≡ step (row_of self.old r) (Instr.Nor t ins) }
+        ensures frame { SameFrame self.old self.new }
+    {
+        match ins {
+            Ins::One(a) => self.nor1(t, a),
+            Ins::Two(a, b) => self.nor2(t, a, b),
+            Ins::Three(a, b, c) => {
+                self.nor2(t, a, b);
+                self.nor1(t, c);
+            }
+            Ins::Four(a, b, c, d) => {
+                self.nor2(t, a, b);
+                self.nor2(t, c, d);
+            }
+        }
+    }
+
+    /// Executes an RM3. A constant operand is the column of zeros or of ones.
+    fn rm3(&mut self, p: Operand, q: Operand, z: u32)
+        requires { FitsCells self.old.cells (Instr.Rm3 p q z) }
+        ensures rows { (r : ℕ) → IsRow self.old r → row_of self.new r ≡ step (row_of self.old r) (Instr.Rm3 p q z) }
+        ensures frame { SameFrame self.old self.new }
+    {
+        let first = column_for(self.cells, p);
+        let second = column_for(self.cells, q);
+        self.rm3_columns(first, second, z);
+    }
+
+    /// Sets a cell to one.
+    fn set(&mut self, t: u32)
+        requires { t < self.old.cells }
+        ensures rows { (r : ℕ) → IsRow self.old r → row_of self.new r ≡ slice_set (row_of self.old r) t true }
+        ensures frame { SameFrame self.old self.new }
+    {
+        columns::set_column(&mut self.buffer, self.words, t as usize);
+    }
+
+    /// Executes a NOR of one cell.
+    fn nor1(&mut self, t: u32, a: u32)
+        requires t_within { t < self.old.cells }
+        requires a_within { a < self.old.cells }
+        requires a_apart { a ≢ t }
+        ensures rows { (r : ℕ) → IsRow self.old r → row_of self.new r ≡ slice_set (row_of self.old r) t
+            (bit (row_of self.old r) t && not (bit (row_of self.old r) a)) }
+        ensures frame { SameFrame self.old self.new }
+    {
+        columns::nor1_column(&mut self.buffer, self.words, t as usize, a as usize);
+    }
+
+    /// Executes a NOR of two cells.
+    fn nor2(&mut self, t: u32, a: u32, b: u32)
+        requires t_within { t < self.old.cells }
+        requires a_within { a < self.old.cells }
+        requires b_within { b < self.old.cells }
+        requires a_apart { a ≢ t }
+        requires b_apart { b ≢ t }
+        ensures rows { (r : ℕ) → IsRow self.old r → row_of self.new r ≡ slice_set (row_of self.old r) t
+            (bit (row_of self.old r) t && not (bit (row_of self.old r) a || bit (row_of self.old r) b)) }
+        ensures frame { SameFrame self.old self.new }
+    {
+        columns::nor2_column(
+            &mut self.buffer,
+            self.words,
+            t as usize,
+            a as usize,
+            b as usize,
+        );
+    }
+
+    /// Executes an RM3 of two columns on a cell.
+    fn rm3_columns(&mut self, p: u32, q: u32, z: u32)
+        requires z_within { z < self.old.cells }
+        requires p_within { p < self.old.cells + 2 }
+        requires q_within { q < self.old.cells + 2 }
+        requires p_apart { p ≢ z }
+        requires q_apart { q ≢ z }
+        ensures rows { (r : ℕ) → IsRow self.old r → row_of self.new r ≡ slice_set (row_of self.old r) z
+            (majority (lane (column_of self.old p) r) (not (lane (column_of self.old q) r)) (bit (row_of self.old r) z)) }
+        ensures frame { SameFrame self.old self.new }
+    {
+        columns::rm3_column(
+            &mut self.buffer,
+            self.words,
+            z as usize,
+            p as usize,
+            q as usize,
+        );
+    }
+}
+
+/// The column that an operand stands for.
+fn column_for(cells: u32, operand: Operand) -> u32
+    requires { cells ≤ MAX_CELLS }
+    ensures { result ≡ column_for cells operand }
+{
+    match operand {
+        Operand::Zero => cells,
+        Operand::One => cells + 1,
+        Operand::Cell(c) => c,
+    }
+}
+
+/// The word that fills a column.
+fn fill_word(fill: Fill) -> u64
+    ensures { result ≡ fill_word fill }
+{
+    match fill {
+        Fill::Zeros => 0,
+        Fill::Ones => u64::MAX,
+    }
+}

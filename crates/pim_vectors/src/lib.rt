@@ -1,0 +1,13 @@
+//! Vectors of bits from lines of text: lines from a source, one buffer for all, and tiles of rows, 64 in a word.
+#![tactic(auto)]
+
+mod bytes;
+mod fault;
+mod found;
+mod limits;
+mod lines;
+mod sizes;
+
+pub use fault::LinesFault;
+pub use limits::{MAX_BYTES, MAX_LINES};
+pub use lines::Lines;
