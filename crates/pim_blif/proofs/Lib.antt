@@ -3,4 +3,5 @@ mod FileExamples
 pub mod Joins
 pub mod Numbers
 pub mod Places
+pub mod Readings
 pub mod Rooms

@@ -133,13 +133,14 @@ without_cover k = record k {
 abbrev pub unsupported : ℕ → List (List ℕ) → BlifFault
 unsupported line words = faults.Unsupported line (label (take 4096 (first_word words)))
 
--- behind `.end` nothing may stand
-abbrev pub unless_ended : ℕ → Known → Result Known BlifFault
-unless_ended line k = if k.ended then Err (faults.Syntax line) else Ok k
+-- whether a statement may stand: `.model` stands before every other statement, and behind `.end` no other may stand
+abbrev pub allowed : ℕ → Known → List (List ℕ) → Option Directive → Result Known BlifFault
+allowed line k words (Some Model) = if k.started then Err (unsupported line words) else Ok k
+allowed line k words d = if k.ended then Err (faults.Syntax line) else Ok k
 
--- the directives other than `.model`, before `.end`
+-- what is known behind a directive that may stand
 abbrev pub directed : ℕ → Known → List (List ℕ) → Directive → Result Known BlifFault
-directed line k words Model = Err (unsupported line words)
+directed line k words Model = Ok k
 directed line k words Inputs = each (with_input line) k (drop 1 words)
 directed line k words Outputs = each with_output k (drop 1 words)
 directed line k words Names = with_cover line k (drop 1 words)
@@ -147,12 +148,18 @@ directed line k words End = Ok (record k { ended = true })
 directed line k words PassedOver = Ok k
 directed line k words Unsupported = Err (unsupported line words)
 
--- what is known behind a statement, or its fault: `.model` may stand before every other statement alone
-abbrev pub judged_as : ℕ → Known → List (List ℕ) → Option Directive → Result Known BlifFault
-judged_as line k words None = unless_ended line k >>= λ k. row_of line k k.cover words
-judged_as line k words (Some Model) = if k.started then Err (unsupported line words) else Ok (without_cover k)
-judged_as line k words (Some d) = unless_ended line k >>= λ k. directed line (without_cover k) words d
+-- what is known behind a statement that may stand
+abbrev pub stated : ℕ → Known → List (List ℕ) → Option Directive → Result Known BlifFault
+stated line k words None = row_of line k k.cover words
+stated line k words (Some d) = directed line (without_cover k) words d
 
 -- what is known behind a statement of a line with these words, or its fault
 abbrev pub judged : Known → ℕ → List (List ℕ) → Result Known BlifFault
-judged k line words = judged_as line k words (directive_of (first_word words))
+judged k line words =
+    allowed line k words (directive_of (first_word words)) >>= λ k.
+    stated line k words (directive_of (first_word words))
+
+-- what is known behind further statements, or the fault of the first faulty one
+abbrev pub known_after : Known → List Statement → Result Known BlifFault
+known_after k [] = Ok k
+known_after k (s ∷ rest) = judged k s.line s.words >>= λ next. known_after next rest

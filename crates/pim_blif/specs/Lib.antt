@@ -1,6 +1,7 @@
 pub mod Covers
 pub mod Directives
 pub mod Files
+pub mod InputMarks
 pub mod Judging
 pub mod Netlists
 pub mod Reading

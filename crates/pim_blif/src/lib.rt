@@ -4,8 +4,10 @@
 
 mod directive;
 mod fault;
+mod inputs;
 mod line;
 mod row;
+mod signals;
 mod statements;
 mod table;
 

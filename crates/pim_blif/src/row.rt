@@ -1,5 +1,6 @@
-ghost use Rattle.std.specs.Prelude.{◌≡◌, ◌==◌, map, length, Some, None, is_some, IfSome, if◌then◌else◌};
+ghost use Rattle.std.specs.Prelude.{◌≡◌, ◌==◌, length, Some, None, is_some, IfSome, if◌then◌else◌};
 ghost use Rattle.std.specs.List.{list_all};
+ghost use Rattle.pim_blif.specs.Reading.{texts};
 ghost use Rattle.pim_blif.specs.Steps.{Gives};
 ghost use Rattle.pim_blif.specs.Rows.{is_cell, cell_of, cells_of, pattern_of, output_of, row_words, value_of, row_at};
 
@@ -17,8 +18,8 @@ struct RowText<'a> {
 /// otherwise it has a pattern before that.
 fn parts<'a>(width: usize, words: &[&'a [u8]]) -> Option<RowText<'a>>
     ensures shape { is_some result ≡ (length words.now == row_words width) }
-    ensures pattern { IfSome result (λ row. row.pattern.now ≡ pattern_of (map (λ w. w.now) words.now)) }
-    ensures output { IfSome result (λ row. row.output.now ≡ output_of (map (λ w. w.now) words.now)) }
+    ensures pattern { IfSome result (λ row. row.pattern.now ≡ pattern_of (texts words.now)) }
+    ensures output { IfSome result (λ row. row.output.now ≡ output_of (texts words.now)) }
 {
     match words {
         [output] if width == 0 => Some(RowText {
@@ -79,7 +80,7 @@ pub(crate) fn read_row(
     cells: &mut Vec<Bit3>,
 ) -> Result<bool, BlifFault>
     ensures { Gives (λ value. record { cells = cells.new.items; value = value }) result
-        (row_at line width first (map (λ w. w.now) words.now)) }
+        (row_at line width first (texts words.now)) }
 {
     let Some(row) = parts(width, words) else {
         return Err(BlifFault::Syntax(line));
