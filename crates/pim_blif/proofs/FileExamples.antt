@@ -11,7 +11,7 @@ use Rattle.pim_blif.specs.declared.fault.BlifFault.TheVariants as faults
 use Rattle.pim_blif.specs.Directives.{directive_of, directive_named}
 use Rattle.pim_blif.specs.Signals.{distinct}
 use Rattle.pim_blif.specs.Rows.{row_at}
-use Rattle.pim_blif.specs.Judging.{with_input, with_output}
+use Rattle.pim_blif.specs.Judging.{with_input, with_output, with_row_at}
 use Rattle.pim_blif.specs.Files.{net_of, netlist_by, judged_net}
 
 -- a line before others
@@ -34,7 +34,7 @@ exclusive_or : net_of (line (codes ".model x") (line (codes ".inputs a b") (line
   outputs = plain 2 ∷ [];
   output_labels = codes "f" ∷ [];
 })
-unfolding net_of netlist_by judged_net directive_named with_input with_output row_at line equation plain
+unfolding net_of netlist_by judged_net directive_named with_input with_output row_at with_row_at line equation plain
 exclusive_or = refl
 
 -- a cover whose rows say where it is false
@@ -45,7 +45,7 @@ off_set : net_of (line (codes ".inputs a b") (line (codes ".outputs f") (line (c
   outputs = plain 2 ∷ [];
   output_labels = codes "f" ∷ [];
 })
-unfolding net_of netlist_by judged_net directive_named with_input with_output row_at line equation plain
+unfolding net_of netlist_by judged_net directive_named with_input with_output row_at with_row_at line equation plain
 off_set = refl
 
 -- constants: a cover without rows is false, and one with the row `1` is true
@@ -56,7 +56,7 @@ constants : net_of (line (codes ".outputs f g") (line (codes ".names f") (line (
   outputs = plain 0 ∷ plain 1 ∷ [];
   output_labels = codes "f" ∷ codes "g" ∷ [];
 })
-unfolding net_of netlist_by judged_net directive_named with_input with_output row_at line equation plain
+unfolding net_of netlist_by judged_net directive_named with_input with_output row_at with_row_at line equation plain
 constants = refl
 
 -- a file without a statement has a fault in its first line
@@ -71,7 +71,7 @@ stray_row = refl
 
 -- a directive that is passed over ends a cover
 passed_over_ends : net_of (line (codes ".names a f") (line (codes ".area 1") (line (codes "1 1") []))) ≡ Err (faults.Syntax 3)
-unfolding net_of netlist_by directive_named row_at line
+unfolding net_of netlist_by directive_named row_at with_row_at line
 passed_over_ends = refl
 
 -- a directive that is not supported, and a word of a dot alone
@@ -127,7 +127,7 @@ twice = refl
 
 -- a netlist that is not well-formed, with the labels of its signals
 undriven : net_of (line (codes ".outputs f") (line (codes ".names u f") (line (codes "1 1") []))) ≡ Err (faults.Net (net_faults.Undriven 1) (codes "f" ∷ codes "u" ∷ []))
-unfolding net_of netlist_by judged_net directive_named with_output row_at line
+unfolding net_of netlist_by judged_net directive_named with_output row_at with_row_at line
 undriven = refl
 
 -- names are numbered where they first come

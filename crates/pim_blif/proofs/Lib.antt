@@ -1,5 +1,6 @@
 mod Examples
 mod FileExamples
+pub mod Found
 pub mod Joins
 pub mod Numbers
 pub mod Places

@@ -1,6 +1,6 @@
 -- Readings one after the other, as loops make them.
-use Rattle.std.proofs.Common.{◌≡◌, ℕ, ◌+◌, ◌≤◌, ◌<◌, List, [], ◌∷◌, ◌++◌, Result, Ok, Err, length, drop, get_or, refl, sym, ap, ◌∙◌, append_assoc, arith}
-use Rattle.std.proofs.lemmas.List.{append-nil, drop_more, drop_all}
+use Rattle.std.proofs.Common.{◌≡◌, ℕ, ◌+◌, ◌≤◌, ◌<◌, List, [], ◌∷◌, ◌++◌, Result, Ok, Err, length, drop, get_or, refl, sym, ap, ◌∙◌, append_assoc, arith, subst, All}
+use Rattle.std.proofs.lemmas.List.{append-nil, drop_more, drop_all, get_or-map, length-map}
 use Rattle.std.specs.Borrow.{Bor}
 use Rattle.pim_blif.specs.declared.fault.BlifFault.{BlifFault}
 use Rattle.pim_blif.specs.declared.fault.BlifFault.TheVariants as faults
@@ -26,6 +26,14 @@ texts_more words i d lt = ap texts (drop_more words i d lt)
 
 pub texts_all : (words : List (Bor (List ℕ))) (i : ℕ) → length words ≤ i → texts (drop i words) ≡ []
 texts_all words i le = ap texts (drop_all i words le)
+
+-- each word has bytes
+pub has_bytes : (words : List (Bor (List ℕ))) (i : ℕ) (d : Bor (List ℕ)) → i < length words → All (λ (word : List ℕ). 0 < length word) (texts words) → 0 < length (get_or words i d).now
+has_bytes words i d lt some =
+    let count : length (texts words) ≡ length words = length-map words (λ (slice : Bor (List ℕ)). slice.now) in
+    let at : get_or (texts words) i d.now ≡ (get_or words i d).now = get_or-map (λ (slice : Bor (List ℕ)). slice.now) words i d d.now lt in
+    let P : List ℕ → Type 0 = λ word. 0 < length word in
+    subst P at (some i d.now (omega arith))
 
 -- words that are taken up in turn
 module _ (take_up : Known → List ℕ → Result Known BlifFault) (words : List (Bor (List ℕ))) (i : ℕ) (d : Bor (List ℕ)) (k : Known) (total : Result Known BlifFault) where

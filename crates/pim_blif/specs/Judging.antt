@@ -114,12 +114,15 @@ first_value cover = if length cover.rows == 0 then None else Some cover.phase
 abbrev pub with_row : Equation → RowView → Equation
 with_row e row = record e { cover = record e.cover { rows = e.cover.rows ++ row.cells ∷ []; phase = row.value } }
 
+-- an equation with the row of a line with these words
+unfoldable pub with_row_at : ℕ → Equation → List (List ℕ) → Result Equation BlifFault
+with_row_at line e words =
+    row_at line (length e.cover.ins) (first_value e.cover) words >>= λ row. Ok (with_row e row)
+
 -- a row of the open cover; there is none to which it could belong where no cover is open
 abbrev pub row_of : ℕ → Known → Option Equation → List (List ℕ) → Result Known BlifFault
 row_of line k None words = Err (faults.Syntax line)
-row_of line k (Some e) words =
-    row_at line (length e.cover.ins) (first_value e.cover) words >>= λ row.
-    Ok (record k { cover = Some (with_row e row) })
+row_of line k (Some e) words = with_row_at line e words >>= λ e. Ok (record k { cover = Some e })
 
 -- a directive ends the cover that is open
 abbrev pub without_cover : Known → Known

@@ -2,6 +2,7 @@
 //! cut into statements, their names are numbered by first appearance, and the covers make a netlist, or the first fault.
 #![tactic(auto)]
 
+mod cover;
 mod directive;
 mod fault;
 mod inputs;

@@ -1,8 +1,8 @@
-ghost use Rattle.std.specs.Prelude.{◌≡◌, ◌==◌, length, Some, None, is_some, IfSome, if◌then◌else◌};
+ghost use Rattle.std.specs.Prelude.{◌≡◌, ◌==◌, length, Some, None, false, is_some, IfSome, IfOk, OnOk, if◌then◌else◌};
 ghost use Rattle.std.specs.List.{list_all};
 ghost use Rattle.pim_blif.specs.Reading.{texts};
 ghost use Rattle.pim_blif.specs.Steps.{Gives};
-ghost use Rattle.pim_blif.specs.Rows.{is_cell, cell_of, cells_of, pattern_of, output_of, row_words, value_of, row_at};
+ghost use Rattle.pim_blif.specs.Rows.{is_cell, cell_of, cells_of, pattern_of, output_of, row_words, value_of, is_mixed, row_at};
 
 use crate::fault::BlifFault;
 use pim_net::Bit3;
@@ -79,8 +79,10 @@ pub(crate) fn read_row(
     words: &[&[u8]],
     cells: &mut Vec<Bit3>,
 ) -> Result<bool, BlifFault>
-    ensures { Gives (λ value. record { cells = cells.new.items; value = value }) result
+    ensures exact { Gives (λ value. record { cells = cells.new.items; value = value }) result
         (row_at line width first (texts words.now)) }
+    ensures whole { OnOk result (length cells.new.items ≡ width) }
+    ensures phase { IfOk result (λ value. is_mixed first value ≡ false) }
 {
     let Some(row) = parts(width, words) else {
         return Err(BlifFault::Syntax(line));

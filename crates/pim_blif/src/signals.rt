@@ -12,7 +12,7 @@ use std::alloc::Global;
 
 /// The number of a name, which is appended where it is new: it has at most 4,096 bytes, and there are at most 1,048,576
 /// signals. Expected constant time, beside the length of the name.
-#[tactic(auto, using(crate::proofs::Numbers::found_below, crate::proofs::Numbers::number_within))]
+#[tactic(auto, using(crate::proofs::Found::found_below, crate::proofs::Found::number_within))]
 pub(crate) fn signal<'a>(names: &mut NameTable<'a>, name: &'a [u8]) -> Result<u32, BlifFault>
     requires { 0 < length name.now }
     ensures exact { Gives (λ _. names.new) result (named names.old name.now) }
