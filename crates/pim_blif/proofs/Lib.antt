@@ -2,6 +2,7 @@ mod Examples
 mod FileExamples
 pub mod Found
 pub mod Joins
+pub mod Marks
 pub mod Numbers
 pub mod Places
 pub mod Readings

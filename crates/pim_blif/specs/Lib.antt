@@ -4,6 +4,7 @@ pub mod Files
 pub mod InputMarks
 pub mod Judging
 pub mod Netlists
+pub mod Readers
 pub mod Reading
 pub mod Rows
 pub mod Signals

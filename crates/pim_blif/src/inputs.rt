@@ -1,4 +1,4 @@
-ghost use Rattle.std.specs.Prelude.{◌≡◌, ◌<◌, ℕ, [], true, length, slice_set, OnOk, count_by};
+ghost use Rattle.std.specs.Prelude.{◌≡◌, ◌<◌, ◌≤◌, ℕ, [], true, length, slice_set, OnOk, count_by};
 ghost use Rattle.pim_blif.specs.InputMarks.{is_marked};
 
 use pim_io::NoMemory;
@@ -42,6 +42,7 @@ impl InputMarks {
     pub(crate) fn make_room(&mut self, sig: u32) -> Result<(), NoMemory>
         requires { sig < 1048576 }
         ensures room { OnOk result (sig < length self.new) }
+        ensures within { length self.new ≤ 1048576 }
         ensures same { (s : ℕ) → is_marked self.new s ≡ is_marked self.old s }
         ensures count { count_by (λ mark. mark) self.new ≡ count_by (λ mark. mark) self.old }
     {

@@ -7,6 +7,7 @@ mod directive;
 mod fault;
 mod inputs;
 mod line;
+mod reader;
 mod row;
 mod signals;
 mod statements;
