@@ -1,6 +1,6 @@
 -- Readings one after the other, as loops make them.
-use Rattle.std.proofs.Common.{◌≡◌, ℕ, ◌+◌, ◌≤◌, ◌<◌, List, [], ◌∷◌, ◌++◌, Result, Ok, Err, length, drop, get_or, refl, sym, ap, ◌∙◌, append_assoc, arith, subst, All}
-use Rattle.std.proofs.lemmas.List.{append-nil, drop_more, drop_all, get_or-map, length-map}
+use Rattle.std.proofs.Common.{◌≡◌, ℕ, ◌+◌, ◌≤◌, ◌<◌, List, [], ◌∷◌, ◌++◌, Result, Ok, Err, length, take, drop, min, get_or, refl, sym, ap, ◌∙◌, append_assoc, arith, subst, All}
+use Rattle.std.proofs.lemmas.List.{append-nil, drop_more, drop_all, get_or-map, length-map, take_min}
 use Rattle.std.specs.Borrow.{Bor}
 use Rattle.pim_blif.specs.declared.fault.BlifFault.{BlifFault}
 use Rattle.pim_blif.specs.declared.fault.BlifFault.TheVariants as faults
@@ -82,3 +82,9 @@ module _ (front : List ℕ) (words : List (Bor (List ℕ))) (i : ℕ) (d : Bor (
   numbers_done le so_far =
       let e : with_numbers front (numbered names (texts (drop i words))) ≡ Ok (front ++ [], names) = ap (λ ws. with_numbers front (numbered names ws)) (texts_all words i le) in
       sym so_far ∙ (e ∙ ap (λ ns. Ok (ns, names)) (append-nil front))
+
+-- the first bytes of a word, as many as there are
+pub first_bytes : (word : List ℕ) (n : ℕ) → n ≡ min (length word) 4096 → take n word ≡ take 4096 word
+first_bytes word n e =
+    let f : n ≡ min 4096 (length word) = omega arith in
+    ap (λ k. take k word) f ∙ take_min 4096 word

@@ -133,12 +133,12 @@ without_cover k = record k {
 }
 
 -- a directive that is not supported, told by the label of its first 4,096 bytes
-abbrev pub unsupported : ℕ → List (List ℕ) → BlifFault
-unsupported line words = faults.Unsupported line (label (take 4096 (first_word words)))
+abbrev pub unsupported : ℕ → List ℕ → BlifFault
+unsupported line word = faults.Unsupported line (label (take 4096 word))
 
 -- whether a statement may stand: `.model` stands before every other statement, and behind `.end` no other may stand
 abbrev pub allowed : ℕ → Known → List (List ℕ) → Option Directive → Result Known BlifFault
-allowed line k words (Some Model) = if k.started then Err (unsupported line words) else Ok k
+allowed line k words (Some Model) = if k.started then Err (unsupported line (first_word words)) else Ok k
 allowed line k words d = if k.ended then Err (faults.Syntax line) else Ok k
 
 -- what is known behind a directive that may stand
@@ -149,7 +149,7 @@ directed line k words Outputs = each with_output k (drop 1 words)
 directed line k words Names = with_cover line k (drop 1 words)
 directed line k words End = Ok (record k { ended = true })
 directed line k words PassedOver = Ok k
-directed line k words Unsupported = Err (unsupported line words)
+directed line k words Unsupported = Err (unsupported line (first_word words))
 
 -- what is known behind a statement that may stand
 abbrev pub stated : ℕ → Known → List (List ℕ) → Option Directive → Result Known BlifFault

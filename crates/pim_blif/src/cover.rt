@@ -1,4 +1,4 @@
-ghost use Rattle.std.specs.Prelude.{◌≡◌, ◌<◌, ◌^◌, false, All, length, IfOk};
+ghost use Rattle.std.specs.Prelude.{◌≡◌, ◌+◌, ◌<◌, ◌^◌, false, All, length, IfOk};
 ghost use Rattle.pim_blif.specs.Reading.{texts};
 ghost use Rattle.pim_blif.specs.Rows.{is_mixed};
 ghost use Rattle.pim_blif.specs.Judging.{empty_cover, first_value, with_row_at};
@@ -60,6 +60,7 @@ pub(crate) fn add_row(
     requires { length equation.cover.rows < 2 ^ 28 }
     ensures exact { Gives (λ e. e) result (with_row_at line equation (texts words.now)) }
     ensures same { IfOk result (λ e. e.sig ≡ equation.sig) }
+    ensures rows { IfOk result (λ e. length e.cover.rows ≡ length equation.cover.rows + 1) }
 {
     let Equation { sig, cover } = equation;
     let first = first_value(&cover);

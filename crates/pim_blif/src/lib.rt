@@ -12,5 +12,6 @@ mod row;
 mod signals;
 mod statements;
 mod table;
+mod words;
 
 pub use fault::BlifFault;

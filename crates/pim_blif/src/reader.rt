@@ -1,6 +1,7 @@
-ghost use Rattle.std.specs.Prelude.{◌≡◌, ◌+◌, ◌<◌, ◌^◌, ℕ, List, [], All, length, OnOk, IfSome};
+ghost use Rattle.std.specs.Prelude.{◌≡◌, ◌+◌, ◌<◌, ◌≤◌, ◌^◌, ℕ, List, [], None, All, length, OnOk, IfSome};
 ghost use Rattle.pim_blif.specs.Reading.{texts};
 ghost use Rattle.pim_blif.specs.Judging.{known_from, with_input, with_output, each, with_cover, row_of, without_cover};
+ghost use Rattle.pim_blif.specs.Readers.{words_used};
 ghost use Rattle.pim_blif.specs.Steps.{Gives};
 
 use crate::cover::{add_row, empty_cover};
@@ -12,6 +13,8 @@ use pim_io::NoMemory;
 use pim_net::{Bit3, Draft, Equation, Kind, OutRef};
 use std::alloc::Global;
 use std::marker::Model;
+
+mod taking;
 
 /// What the statements of a file say, as far as they were read.
 #[derive(Drop)]
@@ -67,7 +70,8 @@ impl<'a> Reader<'a> {
     #[tactic(auto, using(crate::proofs::Marks::few_inputs, crate::proofs::Marks::marks_same, crate::proofs::Marks::marks_more), unfolding(crate::specs::Judging::with_input))]
     fn add_input(&mut self, line: u32, name: &'a [u8]) -> Result<(), BlifFault>
         requires { 0 < length name.now }
-        ensures { Gives (λ _. self.new) result (with_input line self.old name.now) }
+        ensures exact { Gives (λ _. self.new) result (with_input line self.old name.now) }
+        ensures used { OnOk result (words_used self.new ≡ words_used self.old) }
     {
         let sig = signal(&mut self.names, name)?;
         if self.marks.is_marked(sig) {
@@ -83,7 +87,8 @@ impl<'a> Reader<'a> {
     #[tactic(auto, unfolding(crate::specs::Judging::with_output))]
     fn add_output(&mut self, name: &'a [u8]) -> Result<(), BlifFault>
         requires { 0 < length name.now }
-        ensures { Gives (λ _. self.new) result (with_output self.old name.now) }
+        ensures exact { Gives (λ _. self.new) result (with_output self.old name.now) }
+        ensures used { OnOk result (words_used self.new ≡ words_used self.old) }
     {
         let sig = signal(&mut self.names, name)?;
         if self.outputs >= 1_048_576 {
@@ -97,7 +102,8 @@ impl<'a> Reader<'a> {
     /// Takes up inputs, from left to right.
     fn add_inputs(&mut self, line: u32, names: &[&'a [u8]]) -> Result<(), BlifFault>
         requires { All (λ (word : List ℕ). 0 < length word) (texts names.now) }
-        ensures { Gives (λ _. self.new) result (each (with_input line) self.old (texts names.now)) }
+        ensures exact { Gives (λ _. self.new) result (each (with_input line) self.old (texts names.now)) }
+        ensures used { OnOk result (words_used self.new ≡ words_used self.old) }
     {
         for name in names {
             self.add_input(line, name)?;
@@ -108,7 +114,8 @@ impl<'a> Reader<'a> {
     /// Takes up outputs, from left to right.
     fn add_outputs(&mut self, names: &[&'a [u8]]) -> Result<(), BlifFault>
         requires { All (λ (word : List ℕ). 0 < length word) (texts names.now) }
-        ensures { Gives (λ _. self.new) result (each with_output self.old (texts names.now)) }
+        ensures exact { Gives (λ _. self.new) result (each with_output self.old (texts names.now)) }
+        ensures used { OnOk result (words_used self.new ≡ words_used self.old) }
     {
         for name in names {
             self.add_output(name)?;
@@ -120,7 +127,8 @@ impl<'a> Reader<'a> {
     fn begin_cover(&mut self, line: u32, names: &[&'a [u8]]) -> Result<(), BlifFault>
         requires bytes { All (λ (word : List ℕ). 0 < length word) (texts names.now) }
         requires few { length names.now < 2 ^ 28 }
-        ensures { Gives (λ _. self.new) result (with_cover line self.old (texts names.now)) }
+        ensures exact { Gives (λ _. self.new) result (with_cover line self.old (texts names.now)) }
+        ensures used { self.old.cover ≡ None → OnOk result (words_used self.new ≤ words_used self.old + length names.now + 1) }
     {
         if names.is_empty() {
             return Err(BlifFault::Syntax(line));
@@ -134,7 +142,8 @@ impl<'a> Reader<'a> {
     /// Takes up a row of the open cover.
     fn add_row(&mut self, line: u32, words: &[&[u8]]) -> Result<(), BlifFault>
         requires { IfSome self.old.cover (λ e. length e.cover.rows < 2 ^ 28) }
-        ensures { Gives (λ _. self.new) result (row_of line self.old self.old.cover (texts words.now)) }
+        ensures exact { Gives (λ _. self.new) result (row_of line self.old self.old.cover (texts words.now)) }
+        ensures used { OnOk result (words_used self.new ≤ words_used self.old + 1) }
     {
         let Some(equation) = self.cover.take() else {
             return Err(BlifFault::Syntax(line));
@@ -147,7 +156,8 @@ impl<'a> Reader<'a> {
     /// Ends the cover that is open, as every directive does.
     fn end_cover(&mut self) -> Result<(), NoMemory>
         requires { length self.old.draft.equations + 1 < 2 ^ 28 }
-        ensures { OnOk result (self.new ≡ without_cover self.old) }
+        ensures exact { OnOk result (self.new ≡ without_cover self.old) }
+        ensures used { OnOk result (words_used self.new ≤ words_used self.old) }
     {
         self.started = true;
         if let Some(Equation { sig, cover }) = self.cover.take() {
