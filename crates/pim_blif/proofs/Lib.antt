@@ -7,3 +7,4 @@ pub mod Numbers
 pub mod Places
 pub mod Readings
 pub mod Rooms
+pub mod Whole

@@ -5,6 +5,7 @@
 mod cover;
 mod directive;
 mod fault;
+mod file;
 mod inputs;
 mod line;
 mod reader;
@@ -15,3 +16,4 @@ mod table;
 mod words;
 
 pub use fault::BlifFault;
+pub use file::read;

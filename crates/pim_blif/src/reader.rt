@@ -14,6 +14,7 @@ use pim_net::{Bit3, Draft, Equation, Kind, OutRef};
 use std::alloc::Global;
 use std::marker::Model;
 
+mod closing;
 mod taking;
 
 /// What the statements of a file say, as far as they were read.
