@@ -1,6 +1,8 @@
 mod Examples
 mod FileExamples
+pub mod CoverTexts
 pub mod Found
+pub mod Growing
 pub mod Joins
 pub mod Marks
 pub mod Numbers
