@@ -4,6 +4,7 @@ pub mod CoverTexts
 pub mod Found
 pub mod Growing
 pub mod Joins
+pub mod Knowing
 pub mod Marks
 pub mod Numbers
 pub mod Places
