@@ -106,7 +106,7 @@ same_outputs names more (name ∷ outputs) g h =
     ∙ ap (λ os. output_ref names name ∷ os) (same_outputs names more outputs g h.1)
 
 -- a draft of these lists
-abbrev drafted : List ℕ → List (List ℕ) → List Equation → List OutRef → List (List ℕ) → DraftView
+abbrev pub drafted : List ℕ → List (List ℕ) → List Equation → List OutRef → List (List ℕ) → DraftView
 drafted inputs input_labels equations outputs output_labels = record {
   inputs = inputs; input_labels = input_labels; equations = equations; outputs = outputs; output_labels = output_labels
 }
@@ -151,7 +151,7 @@ fine : {X : Type 0} → X → Result X BlifFault
 fine x = Ok x
 
 -- what is known with further inputs
-abbrev with_inputs : Known → List (List ℕ) → List ℕ → List (List ℕ) → Known
+abbrev pub with_inputs : Known → List (List ℕ) → List ℕ → List (List ℕ) → Known
 with_inputs k names inputs labels = record k {
   names = names;
   draft = record k.draft { inputs = k.draft.inputs ++ inputs; input_labels = k.draft.input_labels ++ labels };
@@ -193,7 +193,7 @@ inputs_taken line k next (word ∷ words) e = by (with_input line k word) refl e
         ∙ ap (λ n. with_inputs k (with_names (with_name k.names word) words) (n ∷ map (number_of (with_names (with_name k.names word) words)) words) (label word ∷ map label words)) (sym (number_stays k.names words word))))
 
 -- what is known with further outputs
-abbrev with_outputs : Known → List (List ℕ) → List OutRef → List (List ℕ) → Known
+abbrev pub with_outputs : Known → List (List ℕ) → List OutRef → List (List ℕ) → Known
 with_outputs k names outputs labels = record k {
   names = names;
   draft = record k.draft { outputs = k.draft.outputs ++ outputs; output_labels = k.draft.output_labels ++ labels };
@@ -235,10 +235,10 @@ outputs_taken k next (word ∷ words) e = by (with_output k word) refl e (λ fir
         ∙ ap (λ n. with_outputs k (with_names (with_name k.names word) words) (record { sig = n; neg = false } ∷ map (output_ref (with_names (with_name k.names word) words)) words) (label word ∷ map label words)) (sym (number_stays k.names words word))))
 
 -- the numbers of names that have no fault, and the names with them
-abbrev numbers_of : List (List ℕ) → List (List ℕ) → List ℕ × List (List ℕ)
+abbrev pub numbers_of : List (List ℕ) → List (List ℕ) → List ℕ × List (List ℕ)
 numbers_of names words = (map (number_of (with_names names words)) words, with_names names words)
 
-numbered_is : (names words : List (List ℕ)) (numbers : List ℕ × List (List ℕ)) → numbered names words ≡ Ok numbers → numbers ≡ numbers_of names words
+pub numbered_is : (names words : List (List ℕ)) (numbers : List ℕ × List (List ℕ)) → numbered names words ≡ Ok numbers → numbers ≡ numbers_of names words
 numbered_is names [] numbers e = cc
 numbered_is names (word ∷ words) numbers e = by (named names word) refl e (λ after others f. numbered_is after words others f)
   where
@@ -253,12 +253,12 @@ numbered_is names (word ∷ words) numbers e = by (named names word) refl e (λ 
     by (Err fault) i e on = absurd cc
     by (Ok after) i e on = join after (numbered after words) refl (named_is names after word i) e on
 
-named_take : (names words : List (List ℕ)) (n : ℕ) → AreNamed names words → AreNamed names (take n words)
+pub named_take : (names words : List (List ℕ)) (n : ℕ) → AreNamed names words → AreNamed names (take n words)
 named_take names words zero h = tt
 named_take names [] (suc n) h = tt
 named_take names (word ∷ words) (suc n) h = (h.0, named_take names words n h.1)
 
-named_at : (names words : List (List ℕ)) (i : ℕ) → i < length words → AreNamed names words → IsNamed names (get_or words i [])
+pub named_at : (names words : List (List ℕ)) (i : ℕ) → i < length words → AreNamed names words → IsNamed names (get_or words i [])
 named_at names [] i lt h = absurd (omega arith)
 named_at names (word ∷ words) zero lt h = h.0
 named_at names (word ∷ words) (suc i) lt h = named_at names words i (omega arith) h.1
@@ -268,7 +268,7 @@ abbrev empty_by : ℕ → List ℕ → Equation
 empty_by sig ins = record { sig = sig; cover = record { ins = ins; rows = []; phase = true } }
 
 -- a cover of some words, by the numbers of its words
-empty_is : (names words : List (List ℕ)) → 0 < length words → empty_cover (map (number_of names) words) ≡ equation_of names (cover_text words [])
+pub empty_is : (names words : List (List ℕ)) → 0 < length words → empty_cover (map (number_of names) words) ≡ equation_of names (cover_text words [])
 empty_is names words some =
     let size : length (map (number_of names) words) ≡ length words = length-map words (number_of names) in
     let at : get_or (map (number_of names) words) (length words - 1) 0 ≡ number_of names (get_or words (length words - 1) []) = get_or-map (number_of names) words (length words - 1) [] 0 (omega arith) in

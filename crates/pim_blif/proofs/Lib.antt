@@ -1,5 +1,6 @@
 mod Examples
 mod FileExamples
+pub mod Behind
 pub mod CoverTexts
 pub mod Found
 pub mod Growing
