@@ -20,7 +20,7 @@ use Rattle.pim_blif.specs.Signals.{number_of, with_name, with_names}
 use Rattle.pim_blif.specs.Rows.{RowView, cells_of, pattern_of, output_of, value_of, is_mixed, is_cell, row_words, row_at}
 use Rattle.pim_blif.specs.Covers.{CoverText, all_but_last, last_word, cover_text, with_row_text, is_one, phase_of, cover_of, equation_of, open_behind, ended_behind}
 use Rattle.pim_blif.specs.Netlists.{draft_with, output_ref, as_inputs, as_outputs, as_signals}
-use Rattle.pim_blif.specs.Judging.{Known, is_end, with_input, with_output, each, numbered, empty_cover, with_cover, first_value, with_row, with_row_at, row_of, without_cover, allowed, directed, stated, unsupported}
+use Rattle.pim_blif.specs.Judging.{Known, is_end, with_input, with_output, each, numbered, empty_cover, with_cover, first_value, with_row, with_row_at, row_of, without_cover, allowed, directed, known_behind, unsupported}
 use Rattle.pim_blif.specs.Directives.{directive, arguments, first_word}
 use Rattle.pim_blif.specs.Statements.{Statement}
 use Rattle.pim_blif.specs.Steps.{◌>>=◌}
@@ -229,7 +229,7 @@ module _ (s : Statement) (next : Known) (names inputs outputs : List (List ℕ))
   now : (on : Known → Result Known BlifFault) → on (without_cover before) ≡ Ok next → on (made names inputs outputs ended_now None true ended) ≡ Ok next
   now on e = sym (ap on (made_ended names inputs outputs covers cover started ended)) ∙ e
 
-  pub taken : (d : Option Directive) → (allowed s.line before s.words d >>= λ k. stated s.line k s.words d) ≡ Ok next → (next ≡ behind d s names inputs outputs covers cover ended) × IsWholeBehind d s names inputs outputs covers cover
+  pub taken : (d : Option Directive) → (allowed s.line before s.words d >>= λ k. known_behind s.line k s.words d) ≡ Ok next → (next ≡ behind d s names inputs outputs covers cover ended) × IsWholeBehind d s names inputs outputs covers cover
   taken None e =
       behind_row s.line s.words next names inputs outputs covers cover started ended whole is_begun
         (may_stand ended (faults.Syntax s.line) before next (λ k. row_of s.line k k.cover s.words) e)
