@@ -1,7 +1,11 @@
 mod Examples
 mod FileExamples
+pub mod Behind
+pub mod CoverTexts
 pub mod Found
+pub mod Growing
 pub mod Joins
+pub mod Knowing
 pub mod Marks
 pub mod Numbers
 pub mod Places

@@ -152,15 +152,15 @@ directed line k words PassedOver = Ok k
 directed line k words Unsupported = Err (unsupported line (first_word words))
 
 -- what is known behind a statement that may stand
-abbrev pub stated : ℕ → Known → List (List ℕ) → Option Directive → Result Known BlifFault
-stated line k words None = row_of line k k.cover words
-stated line k words (Some d) = directed line (without_cover k) words d
+abbrev pub known_behind : ℕ → Known → List (List ℕ) → Option Directive → Result Known BlifFault
+known_behind line k words None = row_of line k k.cover words
+known_behind line k words (Some d) = directed line (without_cover k) words d
 
 -- what is known behind a statement of a line with these words, or its fault
 abbrev pub judged : Known → ℕ → List (List ℕ) → Result Known BlifFault
 judged k line words =
     allowed line k words (directive_of (first_word words)) >>= λ k.
-    stated line k words (directive_of (first_word words))
+    known_behind line k words (directive_of (first_word words))
 
 -- what is known behind further statements, or the fault of the first faulty one
 abbrev pub known_after : Known → List Statement → Result Known BlifFault

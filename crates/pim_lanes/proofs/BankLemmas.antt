@@ -16,7 +16,7 @@ use Rattle.pim_isa.specs.Touches.{operands, operand_cells}
 use Rattle.pim_isa.specs.Validity.{has}
 use Rattle.pim_isa.specs.Steps.{bit, value}
 use Rattle.pim_isa.specs.Results.{fill_bit}
-use Rattle.pim_lanes.specs.Lanes.{is_set, lane}
+use Rattle.pim_io.specs.Lanes.{is_set, lane}
 use Rattle.pim_lanes.specs.Columns.{column_in, Stored}
 use Rattle.pim_lanes.specs.Banks.{BankView, column_of, row_of, IsRow, IsBank, SameFrame, FitsCells, column_for, fill_word}
 use Rattle.pim_lanes.proofs.BitLemmas.{is_set-zero}

@@ -1,6 +1,6 @@
 -- Columns of words that stand one after another in one list.
 use Rattle.std.specs.Prelude.{◌≡◌, ◌≢◌, ℕ, ◌*◌, ◌<◌, Bool, List, length, take, drop}
-use Rattle.pim_lanes.specs.Lanes.{lane}
+use Rattle.pim_io.specs.Lanes.{lane}
 
 -- column c of columns of so many words
 unfoldable pub column_in : ℕ → List ℕ → ℕ → List ℕ
