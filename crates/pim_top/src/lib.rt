@@ -3,6 +3,7 @@
 #![tactic(auto)]
 
 mod commands;
+mod input;
 mod netlist;
 mod note;
 mod refusal;
