@@ -2,11 +2,12 @@
 use Rattle.std.specs.Prelude.{◌≡◌, ◌≢◌, ℕ, zero, suc, ◌+◌, ◌-◌, ◌*◌, ◌%◌, ◌<◌, ◌≤◌, ◌&&◌, nat_le, if◌then◌else◌, Bool, true, false, List, [], ◌∷◌, ◌++◌, length, map, take, drop, Option, Some, None, Result, Ok, Err}
 use Rattle.std.specs.List.{flat_map}
 use Rattle.pim_isa.specs.Programs.{ProgramView}
-use Rattle.pim_isa.specs.Results.{bits_of, result_of}
+use Rattle.pim_io.specs.Bits.{bits_of, line_of}
+use Rattle.pim_isa.specs.Results.{result_of}
 use Rattle.pim_isa.specs.declared.target.Fill.{Fill}
 use Rattle.pim_vectors.specs.Lines.{line_len, lines}
 use Rattle.pim_vectors.specs.Next.{LinesView, next_of}
-use Rattle.pim_vectors.specs.Tiles.{characters, fits}
+use Rattle.pim_vectors.specs.Tiles.{is_vector}
 use Rattle.pim_vectors.specs.declared.fault.LinesFault.{LinesFault}
 use Rattle.pim_vectors.specs.declared.fault.LinesFault.TheVariants as fault
 use Rattle.pim_top.specs.declared.refusal.Limit.TheVariants as limit
@@ -16,7 +17,7 @@ use Rattle.pim_top.specs.declared.refusal.Refusal.TheVariants as refusal
 
 -- the line that a program gives for the bits of a vector
 abbrev pub result_line : ProgramView → Fill → List Bool → List ℕ
-result_line p fill bits = characters (result_of p fill bits) ++ 10 ∷ []
+result_line p fill bits = line_of (result_of p fill bits) ++ 10 ∷ []
 
 -- the lines that a program gives for vectors, one after another
 abbrev pub table : ProgramView → Fill → List (List Bool) → List ℕ
@@ -51,7 +52,7 @@ line_at longest bytes n =
 -- what is said of vector n + 1 of so many bits: its line, that there is none, or why it is refused
 abbrev pub verdict_of : ℕ → ℕ → Result (Option (List ℕ)) LinesFault → Result (Option (List ℕ)) Refusal
 verdict_of inputs n (Ok None) = Ok None
-verdict_of inputs n (Ok (Some line)) = if fits line inputs then Ok (Some line) else Err (refusal.Vector (n + 1))
+verdict_of inputs n (Ok (Some line)) = if is_vector inputs line then Ok (Some line) else Err (refusal.Vector (n + 1))
 verdict_of inputs n (Err fault.Fault) = Err (refusal.ReadFault Input)
 verdict_of inputs n (Err (fault.Long k)) = Err (refusal.Vector k)
 verdict_of inputs n (Err fault.TooMany) = Err (refusal.TooLarge limit.Rows)
@@ -62,12 +63,12 @@ unfoldable pub verdict : ℕ → List ℕ → ℕ → Result (Option (List ℕ))
 verdict inputs bytes n = verdict_of inputs n (line_at inputs bytes n)
 
 -- the line behind the first n is a vector
-abbrev pub IsVector : ℕ → List ℕ → ℕ → Type 0
-IsVector inputs bytes n = (line : List ℕ) × (verdict inputs bytes n ≡ Ok (Some line))
+abbrev pub HasVector : ℕ → List ℕ → ℕ → Type 0
+HasVector inputs bytes n = (line : List ℕ) × (verdict inputs bytes n ≡ Ok (Some line))
 
 -- each of the first n lines is a vector
 abbrev pub AreVectors : ℕ → List ℕ → ℕ → Type 0
-AreVectors inputs bytes n = (k : ℕ) → k < n → IsVector inputs bytes k
+AreVectors inputs bytes n = (k : ℕ) → k < n → HasVector inputs bytes k
 
 -- all lines of the bytes are vectors, and the output took a result line for each
 pub record RanWhole (p : ProgramView) (fill : Fill) (bytes rest before after : List ℕ) : Type 0 where
