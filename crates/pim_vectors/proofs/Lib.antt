@@ -1,1 +1,4 @@
 pub mod Taking
+pub mod NextLemmas
+pub mod AfterLemmas
+pub mod TileLemmas

@@ -1,2 +1,4 @@
 pub mod Lines
 pub mod Next
+pub mod Tiles
+pub mod Lending

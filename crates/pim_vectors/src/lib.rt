@@ -3,11 +3,16 @@
 
 mod bytes;
 mod fault;
+mod fits;
 mod found;
 mod limits;
 mod lines;
+mod rows;
 mod sizes;
+mod tile;
 
 pub use fault::LinesFault;
+pub use fits::vector_fits;
 pub use limits::{MAX_BYTES, MAX_LINES};
 pub use lines::Lines;
+pub use tile::Tile;

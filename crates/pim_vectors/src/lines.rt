@@ -1,4 +1,5 @@
 ghost use Rattle.std.specs.Prelude.{◌≡◌, ◌≢◌, ℕ, ◌+◌, ◌-◌, ◌<◌, ◌≤◌, ◌↔◌, true, length, take, slice_index, List, [], ◌++◌, Some, None, Ok, Err, MatchOption, OnOk, ◌⊎◌, IsTrue, IfOk, IfErr, OnErr};
+ghost use Rattle.std.specs.Option.{option_copied};
 ghost use Rattle.pim_io.specs.Lines.{is_newline};
 ghost use Rattle.pim_io.specs.Outside.{Rose, IsSpent, Told};
 ghost use Rattle.pim_vectors.specs.Lines.{line_len};
@@ -49,6 +50,9 @@ impl Model for Lines {
 }
 
 impl Lines {
+    ghost use Rattle.std.specs.Borrow.{sem};
+    ghost use Rattle.pim_vectors.specs.Lending.{EndsAfter};
+
     /// A walk over lines of at most so many bytes. Takes memory for one buffer, which is all that it ever takes.
     pub fn new(alloc: Global, longest: u32) -> Result<Lines, NoMemory>
         ensures { IfOk result (λ lines. lines ≡ record { longest = longest; given = 0; place = 0; held = [] }) }
@@ -61,6 +65,34 @@ impl Lines {
             given: 0,
             place: 0,
         })
+    }
+
+    /// The next line, without its newline and a carriage return before that, or None at the end of the source. All lines that
+    /// were taken are handed out before more bytes are. A last piece without a newline is a line, if it isn't empty. The faults:
+    /// `Long` of a line of more bytes than the longest, once its end or two more than the longest of its bytes were taken; `TooMany`
+    /// in place of line `MAX_LINES` + 1; `TooLong` where more than `MAX_BYTES` bytes were taken and no line or other fault stands
+    /// before the last of these; `Fault` where a read failed. Takes no memory. Linear in the bytes.
+    pub fn next<S: Source>(&mut self, source: &mut S) -> Result<Option<&[u8]>, LinesFault>
+        ensures line { IfOk result (λ line. Told (S.left source.old) (S.left source.new)
+            (λ before now. next_of self.old (self.old.held ++ before) ≡ Ok (option_copied line))) }
+        ensures refused { IfErr result (λ fault. fault ≢ LinesFault.Fault → Told (S.left source.old) (S.left source.new)
+            (λ before now. next_of self.old (self.old.held ++ before) ≡ Err fault)) }
+        ensures fault { IfErr result (λ fault. fault ≡ LinesFault.Fault → Rose (S.faults source.old) (S.faults source.new)) }
+        ensures never_falls { S.faults source.old ≤ S.faults source.new }
+
+        // Nothing is taken where a newline is held.
+        ensures unread { line_len self.old.held < length self.old.held → source.new ≡ source.old }
+
+        ensures* after { sem 𝓛 (EndsAfter self.entry (S.left source.old) (S.left source.new) result) }
+    {
+        let Some(sizes) = self.next_sizes(source)? else {
+            return Ok(None);
+        };
+        let start = self.start;
+        self.start = start + sizes.whole;
+        self.place += sizes.whole as u32;
+        self.given += 1;
+        Ok(Some(&self.buffer[start..start + sizes.text]))
     }
 
     /// How many of the bytes that are held may belong to lines.
@@ -98,10 +130,33 @@ impl Lines {
         len >= self.longest as usize + 2
     }
 
+    /// Takes bytes until it is known what the next line is, and says its sizes, or None at the end.
+    fn next_sizes<S: Source>(&mut self, source: &mut S) -> Result<Option<Sizes>, LinesFault>
+        ensures took { Took self.old (S.left source.old) (S.left source.new) self.new }
+        ensures next { IfOk result (λ next. MatchOption next
+            (IsEnd self.new (S.left source.old) (S.left source.new))
+            (IsNext self.new (S.left source.old) (S.left source.new))) }
+        ensures refused { IfErr result (λ fault. fault ≢ LinesFault.Fault
+            → Told (S.left source.old) (S.left source.new) (λ before now. next_of self.new (self.new.held ++ now) ≡ Err fault)) }
+        ensures waits { result ≡ Err LinesFault.Fault → NoNewline self.new.held (length self.new.held) }
+        ensures counted { result ≡ Err LinesFault.Fault → Rose (S.faults source.old) (S.faults source.new) }
+        ensures never_falls { S.faults source.old ≤ S.faults source.new }
+        ensures unread { line_len self.old.held < length self.old.held → source.new ≡ source.old }
+    {
+        let found = self.find(source)?;
+        let sizes = self.sizes(found);
+        if sizes.whole == 0 {
+            return Ok(None);
+        }
+        self.judge(sizes.text)?;
+        Ok(Some(sizes))
+    }
+
     /// Whether a text of so many bytes may be handed out as the next line.
     fn judge(&self, len: usize) -> Result<(), LinesFault>
         ensures ok { OnOk result ((text : List ℕ) → length text ≡ len → handed self.now text ≡ Ok (Some text)) }
         ensures more { OnOk result (self.now.given < MAX_LINES) }
+        ensures fits { OnOk result (len ≤ self.now.longest) }
         ensures refused { IfErr result (λ fault. (text : List ℕ) → length text ≡ len → handed self.now text ≡ Err fault) }
         ensures fault { IfErr result (λ fault. fault ≢ LinesFault.Fault) }
     {

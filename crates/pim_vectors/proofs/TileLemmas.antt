@@ -1,0 +1,171 @@
+-- Lanes of columns that stand one after another, and one bit written.
+use Rattle.std.proofs.Common.{◌≡◌, ◌≢◌, ℕ, ◌+◌, ◌-◌, ◌*◌, ◌/◌, ◌%◌, ◌^◌, ◌<◌, ◌≤◌, ◌⊎◌, inl, inr, Bool, true, false, ◌&&◌, cond, eqb, ltb, List, length, take, drop, set, get_or, map, replicate, bit_and, bit_or, refl, sym, ap, subst, ◌∙◌, arith}
+use Rattle.std.specs.List.{range_with_len}
+use Rattle.std.specs.Int.{bit_at, w64}
+use Rattle.std.proofs.lemmas.Bool.{cases_eq, cases_lt, eq-eqb, ne_eqb, lt-ltb, le-ltb}
+use Rattle.std.proofs.lemmas.List.{get_or-set_same, get_or-set_other, get_or-take, get_or-drop, get_or-map, get_or-replicate, length-map, length-replicate, ext_get_or}
+use Rattle.std.proofs.lemmas.List.FromFn.{length-map-range_with_len, get_or-map-range_with_len}
+use Rattle.std.proofs.lemmas.Nat.Bits.{shr_and_one, bit_at_set_same, bit_at_set_other, bit_at_clear_same, bit_at_clear_other, bit_at-zero}
+use Rattle.pim_vectors.specs.Tiles.{TileView, is_set, lane, column_in, lane_at, column_of, row_of, IsRow, bits_of, digit_of, line_of}
+
+-- ---- one bit of a word
+pub is_set-shifted : (n i : ℕ) → eqb (bit_and (n / 2 ^ i) 1) 1 ≡ is_set n i
+unfolding is_set
+is_set-shifted n i = ap (λ (b : ℕ). eqb b 1) (shr_and_one n i)
+
+pub is_set-set : (n k i : ℕ) → k < 64 → is_set (bit_or n (1 * 2 ^ k % 2 ^ 64)) i ≡ cond (eqb i k) true (is_set n i)
+unfolding is_set
+is_set-set n k i within =
+    elim (cases_eq i k) [
+      | inl same ↦ rw (eq-eqb i k same) (ap (λ (j : ℕ). eqb (bit_at (bit_or n (1 * 2 ^ k % 2 ^ 64)) j) 1) same ∙ ap (λ (b : ℕ). eqb b 1) (bit_at_set_same w64 n k within))
+      | inr other ↦ rw (ne_eqb i k other) (ap (λ (b : ℕ). eqb b 1) (bit_at_set_other w64 n k within i other))
+    ]
+
+pub is_set-clear : (n k i : ℕ) → k < 64 → i < 64 → is_set (bit_and n (2 ^ 64 - 1 - (1 * 2 ^ k % 2 ^ 64))) i ≡ cond (eqb i k) false (is_set n i)
+unfolding is_set
+is_set-clear n k i within small =
+    elim (cases_eq i k) [
+      | inl same ↦ rw (eq-eqb i k same) (ap (λ (j : ℕ). eqb (bit_at (bit_and n (2 ^ 64 - 1 - (1 * 2 ^ k % 2 ^ 64))) j) 1) same ∙ ap (λ (b : ℕ). eqb b 1) (bit_at_clear_same w64 n k within))
+      | inr other ↦ rw (ne_eqb i k other) (ap (λ (b : ℕ). eqb b 1) (bit_at_clear_other w64 n k within i small other))
+    ]
+
+is_set-zero : (i : ℕ) → is_set 0 i ≡ false
+unfolding is_set
+is_set-zero i = ap (λ (b : ℕ). eqb b 1) (bit_at-zero i)
+
+-- ---- places of columns
+pub low_within : (w c t : ℕ) → c < t → c * w + w ≤ t * w
+low_within w c t low = grind arith
+
+-- two words at one place are of one column
+same_column : (w c k i j : ℕ) → i < w → j < w → c * w + i ≡ k * w + j → (c ≡ k) × (i ≡ j)
+same_column w c k i j p q e =
+    elim (cases_lt c k) [
+      | inl below ↦ absurd (omega (arith, low_within w c k below))
+      | inr not_below ↦
+          elim (cases_lt k c) [
+            | inl above ↦ absurd (omega (arith, low_within w k c above))
+            | inr not_above ↦
+                let same : c ≡ k = omega arith in
+                (same, omega (arith, ap (λ (n : ℕ). n * w) same))
+          ]
+    ]
+
+-- a lane of a column's words
+pub lane-column : (w : ℕ) (buffer : List ℕ) (c r : ℕ) → r < 64 * w → lane (column_in w buffer c) r ≡ lane_at w buffer c r
+unfolding lane lane_at column_in
+lane-column w buffer c r small =
+    ap (λ (n : ℕ). is_set n (r % 64)) (get_or-take w (drop (c * w) buffer) (r / 64) 0 (omega arith) ∙ get_or-drop (c * w) buffer (r / 64) 0)
+
+-- one bit was written
+pub lane_at-set : (w : ℕ) (buffer : List ℕ) (k row word : ℕ) (b : Bool) → row < 64 * w → k * w + w ≤ length buffer →
+    ((i : ℕ) → i < 64 → is_set word i ≡ cond (eqb i (row % 64)) b (is_set (get_or buffer (k * w + row / 64) 0) i)) →
+    (c r : ℕ) → r < 64 * w → lane_at w (set buffer (k * w + row / 64) word) c r ≡ cond (eqb c k && eqb r row) b (lane_at w buffer c r)
+unfolding lane_at
+lane_at-set w buffer k row word b row_small within bits c r small = by_cases (cases_eq (c * w + r / 64) (k * w + row / 64))
+  where
+    at : ℕ
+    at = k * w + row / 64
+    by_cases : (c * w + r / 64 ≡ k * w + row / 64) ⊎ (c * w + r / 64 ≢ k * w + row / 64) →
+        lane_at w (set buffer (k * w + row / 64) word) c r ≡ cond (eqb c k && eqb r row) b (lane_at w buffer c r)
+    by_cases (inl same) =
+        let both = same_column w c k (r / 64) (row / 64) (omega arith) (omega arith) same in
+        let place : eqb (r % 64) (row % 64) ≡ eqb r row =
+          elim (cases_eq r row) [
+            | inl one ↦ ap (λ (n : ℕ). eqb (n % 64) (row % 64)) one ∙ eq-eqb (row % 64) (row % 64) refl ∙ sym (eq-eqb r row one)
+            | inr two ↦ ne_eqb (r % 64) (row % 64) (λ e. two (omega (arith, both.1))) ∙ sym (ne_eqb r row two)
+          ] in
+        ap (λ (n : ℕ). is_set (get_or (set buffer at word) n 0) (r % 64)) same
+        ∙ ap (λ (n : ℕ). is_set n (r % 64)) (get_or-set_same buffer at word 0 (omega arith))
+        ∙ bits (r % 64) (omega arith)
+        ∙ ap (λ (x : Bool). cond x b (is_set (get_or buffer at 0) (r % 64))) place
+        ∙ ap (λ (n : ℕ). cond (eqb r row) b (is_set (get_or buffer n 0) (r % 64))) (sym same)
+        ∙ ap (λ (x : Bool). cond (x && eqb r row) b (is_set (get_or buffer (c * w + r / 64) 0) (r % 64))) (sym (eq-eqb c k both.0))
+    by_cases (inr apart) =
+        ap (λ (n : ℕ). is_set n (r % 64)) (get_or-set_other buffer at (c * w + r / 64) word 0 apart)
+        ∙ elim (cases_eq c k) as (λ _. is_set (get_or buffer (c * w + r / 64) 0) (r % 64) ≡ cond (eqb c k && eqb r row) b (is_set (get_or buffer (c * w + r / 64) 0) (r % 64))) [
+          | inl one ↦
+              rw (eq-eqb c k one, ne_eqb r row (λ e. apart (ap (λ (n : ℕ). n * w + r / 64) one ∙ ap (λ (n : ℕ). k * w + n / 64) e))) refl
+          | inr two ↦ rw (ne_eqb c k two) refl
+        ]
+
+-- ---- the rows of a tile
+pub length-row_of : (t : TileView) (r : ℕ) → length (row_of t r) ≡ t.columns
+unfolding row_of
+length-row_of t r = length-map-range_with_len (λ (c : ℕ). lane (column_of t c) r) 0 t.columns
+
+get_or-row_of : (t : TileView) (r c : ℕ) → IsRow t r → c < t.columns → get_or (row_of t r) c false ≡ lane_at t.words t.buffer c r
+unfolding row_of
+get_or-row_of t r c row small =
+    get_or-map-range_with_len (λ (c : ℕ). lane (column_of t c) r) 0 t.columns c c false small (omega arith)
+    ∙ lane-column t.words t.buffer c r row
+
+-- a row is that list whose bits are its lanes
+row_from_lanes : (t : TileView) (r : ℕ) (bits : List Bool) → IsRow t r → length bits ≡ t.columns →
+    ((c : ℕ) → c < t.columns → lane_at t.words t.buffer c r ≡ get_or bits c false) → row_of t r ≡ bits
+row_from_lanes t r bits row long lanes =
+    ext_get_or false (row_of t r) bits (length-row_of t r ∙ sym long)
+    (λ c within.
+      let small : c < t.columns = omega (arith, length-row_of t r) in
+      get_or-row_of t r c row small ∙ lanes c small)
+
+-- a line was packed into a row
+pub packed_rows : (view t : TileView) (old new items : List ℕ) (row : ℕ) (line : List ℕ) → view ≡ t → items ≡ new → old ≡ view.buffer → length line ≡ t.columns →
+    ((c r : ℕ) → r < 64 * view.words → lane_at view.words new c r ≡ cond (ltb c (length line) && eqb r row) (eqb (get_or line c 0) 49) (lane_at view.words old c r)) →
+    (r : ℕ) → IsRow t r → row_of (record view { buffer = items }) r ≡ cond (eqb r row) (bits_of line) (row_of t r)
+packed_rows view t old new items row line is items_are old_is long lanes =
+    let P : TileView → Type 0 = λ t. length line ≡ t.columns → (r : ℕ) → IsRow t r → row_of (record view { buffer = items }) r ≡ cond (eqb r row) (bits_of line) (row_of t r) in
+    subst P is (λ long r row_small.
+      let after : TileView = record view { buffer = items } in
+      let lane_is : (c : ℕ) → c < view.columns → lane_at view.words items c r ≡ cond (eqb r row) (eqb (get_or line c 0) 49) (lane_at view.words view.buffer c r) =
+        λ (c : ℕ) (small : c < view.columns).
+          ap (λ (l : List ℕ). lane_at view.words l c r) items_are ∙ lanes c r row_small
+          ∙ ap (λ (x : Bool). cond (x && eqb r row) (eqb (get_or line c 0) 49) (lane_at view.words old c r)) (lt-ltb c (length line) (omega arith))
+          ∙ ap (λ (l : List ℕ). cond (eqb r row) (eqb (get_or line c 0) 49) (lane_at view.words l c r)) old_is in
+      elim (cases_eq r row) [
+        | inl same ↦
+            rw (eq-eqb r row same) (row_from_lanes after r (bits_of line) row_small (length-map line (λ (b : ℕ). eqb b 49) ∙ long)
+              (λ c small.
+                lane_is c small ∙ ap (λ (x : Bool). cond x (eqb (get_or line c 0) 49) (lane_at view.words view.buffer c r)) (eq-eqb r row same)
+                ∙ sym (get_or-map (λ (b : ℕ). eqb b 49) line c 0 false (omega arith))))
+        | inr other ↦
+            rw (ne_eqb r row other) (row_from_lanes after r (row_of view r) row_small (length-row_of view r)
+              (λ c small.
+                lane_is c small ∙ ap (λ (x : Bool). cond x (eqb (get_or line c 0) 49) (lane_at view.words view.buffer c r)) (ne_eqb r row other)
+                ∙ sym (get_or-row_of view r c row_small small)))
+      ]) long
+
+-- the line that a row is unpacked to
+pub unpacked : (view t : TileView) (buffer : List ℕ) (n row : ℕ) → view ≡ t → buffer ≡ view.buffer → n ≡ t.columns → IsRow t row →
+    map (λ (c : ℕ). digit_of (lane_at view.words buffer c row)) (range_with_len 0 n) ≡ line_of (row_of t row)
+unpacked view t buffer n row is buffer_is =
+    let f : ℕ → ℕ = λ (c : ℕ). digit_of (lane_at view.words buffer c row) in
+    let P : TileView → Type 0 = λ t. n ≡ t.columns → IsRow t row → map f (range_with_len 0 n) ≡ line_of (row_of t row) in
+    subst P is (λ n_is small.
+      ext_get_or 0 (map f (range_with_len 0 n)) (line_of (row_of view row))
+      (length-map-range_with_len f 0 n ∙ n_is ∙ sym (length-map (row_of view row) digit_of ∙ length-row_of view row))
+      (λ c within.
+        let below : c < n = omega (arith, length-map-range_with_len f 0 n) in
+        get_or-map-range_with_len f 0 n c c 0 below (omega arith)
+        ∙ ap (λ (l : List ℕ). digit_of (lane_at view.words l c row)) buffer_is
+        ∙ ap digit_of (sym (get_or-row_of view row c small (omega arith)))
+        ∙ sym (get_or-map digit_of (row_of view row) c false 0 (omega (arith, length-row_of view row)))))
+
+-- a new tile
+pub new_rows : (columns w : ℕ) (items : List ℕ) → items ≡ replicate (columns * w) 0 → (r : ℕ) → r < 64 * w →
+    row_of (record { columns = columns; words = w; buffer = items }) r ≡ replicate columns false
+unfolding lane_at
+new_rows columns w items is r small =
+    row_from_lanes (record { columns = columns; words = w; buffer = items }) r (replicate columns false) small (length-replicate columns false)
+    (λ c within.
+      let place : c * w + r / 64 < columns * w = omega (arith, low_within w c columns within) in
+      ap (λ (l : List ℕ). is_set (get_or l (c * w + r / 64) 0) (r % 64)) is
+      ∙ ap (λ (n : ℕ). is_set n (r % 64)) (get_or-replicate (columns * w) (c * w + r / 64) 0 0 place)
+      ∙ is_set-zero (r % 64) ∙ sym (get_or-replicate columns c false false within))
+
+-- the words of a slice that is a column
+pub column_in_slice : (w : ℕ) (xs : List ℕ) (c start : ℕ) → start ≡ c * w → take (start + w - start) (drop start xs) ≡ column_in w xs c
+unfolding column_in
+column_in_slice w xs c start e =
+    let n : start + w - start ≡ w = omega arith in
+    rw n (ap (λ (k : ℕ). take w (drop k xs)) e)

@@ -1,0 +1,10 @@
+use Rattle.std.proofs.Common.{ℕ, List, refl, ap, ◌∙◌}
+use Rattle.pim_vectors.specs.Tiles.{TileView, column_in, column_of}
+use Rattle.pim_vectors.proofs.TileLemmas.{column_in_slice}
+use Rattle.pim_vectors.proofs.tile.Tile.column.Goals as goal
+
+pub returns-clause-value : goal.returns-clause-value
+returns-clause-value c =
+    column_in_slice c.self.inside.words c.deref.result.now c.args.k _ refl
+    ∙ ap (λ (l : List ℕ). column_in c.self.inside.words l c.args.k) c.deref.ensures.value
+    ∙ ap (λ (t : TileView). column_of t c.args.k) c.self.view_is

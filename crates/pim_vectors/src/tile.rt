@@ -1,0 +1,70 @@
+ghost use Rattle.std.specs.Prelude.{◌≡◌, ℕ, ◌+◌, ◌*◌, ◌<◌, ◌≤◌, ◌==◌, if◌then◌else◌, false, length, replicate, IfOk};
+ghost use Rattle.pim_vectors.specs.Tiles.{column_of, row_of, IsRow, IsTile, IsVector, SameSizes, bits_of, line_of};
+
+use crate::rows;
+use pim_io::NoMemory;
+use std::alloc::Global;
+use std::marker::Model;
+
+/// Vectors of bits as rows side by side: a column of words for each place of a vector, with a lane of each column for each row.
+#[derive(Debug, Drop)]
+pub struct Tile {
+    buffer: Vec<u64>,
+    columns: u32,
+    words: usize,
+}
+
+impl Model for Tile {
+    ghost use Rattle.pim_vectors.specs.Tiles.{TileView, IsTile};
+
+    ghost Value = { TileView };
+
+    ghost view = { λ t. record { columns = t.columns; words = t.words; buffer = t.buffer.items } };
+
+    ghost invariant = { λ t. IsTile (record { columns = t.columns; words = t.words; buffer = t.buffer.items }) };
+}
+
+impl Tile {
+    /// A tile of that many columns, and 64 rows for each word of a column, all zero. Takes memory for all columns at once.
+    pub fn new(alloc: Global, columns: u32, words: usize) -> Result<Tile, NoMemory>
+        requires { words ≤ 64 }
+        ensures columns { IfOk result (λ tile. tile.columns ≡ columns) }
+        ensures words { IfOk result (λ tile. tile.words ≡ words) }
+        ensures rows { IfOk result (λ tile. (r : ℕ) → IsRow tile r → row_of tile r ≡ replicate columns false) }
+    {
+        Ok(Tile {
+            buffer: vec![in alloc; 0; columns as usize * words]?,
+            columns,
+            words,
+        })
+    }
+
+    /// Writes the bits of a line of the characters `0` and `1` into a row. Linear in the line.
+    pub fn pack(&mut self, row: u32, line: &[u8])
+        requires row { IsRow self.old row }
+        requires fits { IsVector self.old.columns line.now }
+        ensures rows { (r : ℕ) → IsRow self.old r → row_of self.new r ≡ (if r == row then bits_of line.now else row_of self.old r) }
+        ensures sizes { SameSizes self.old self.new }
+    {
+        rows::pack_row(&mut self.buffer, self.words, row as usize, line);
+    }
+
+    /// Writes the bits of a row as the characters `0` and `1` into a line. Linear in the line.
+    pub fn unpack(&self, row: u32, line: &mut [u8])
+        requires row { IsRow self.now row }
+        requires long { length line.old ≡ self.now.columns }
+        ensures { line.new ≡ line_of (row_of self.now row) }
+    {
+        rows::unpack_row(&self.buffer, self.words, row as usize, line);
+    }
+
+    /// The words of a column.
+    pub fn column(&self, k: u32) -> &[u64]
+        requires { k < self.now.columns }
+        ensures value { result.now ≡ column_of self.now k }
+        ensures long { length result.now ≡ self.now.words }
+    {
+        let start = k as usize * self.words;
+        &self.buffer[start..start + self.words]
+    }
+}
