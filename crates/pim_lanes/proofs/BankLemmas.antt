@@ -1,8 +1,8 @@
 -- The rows of a bank of which one column was written.
-use Rattle.std.proofs.Common.{◌≡◌, ◌≢◌, ℕ, ◌+◌, ◌-◌, ◌*◌, ◌/◌, ◌%◌, ◌<◌, ◌≤◌, Bool, true, false, ◌||◌, eqb, List, [], ◌∷◌, ◌++◌, length, set, take, replicate, inl, inr, refl, sym, ap, subst, ◌∙◌, arith}
+use Rattle.std.proofs.Common.{◌≡◌, ◌≢◌, ℕ, ◌+◌, ◌*◌, ◌/◌, ◌%◌, ◌<◌, ◌≤◌, Bool, true, false, ◌||◌, eqb, List, [], ◌∷◌, ◌++◌, length, set, replicate, inl, inr, refl, sym, ap, subst, ◌∙◌, arith}
 use Rattle.std.specs.Prelude.{All}
 use Rattle.std.proofs.lemmas.Bool.{cases_eq, cases_lt, eqb-false}
-use Rattle.std.proofs.lemmas.List.{length-set, length-replicate, ext_get_or, get_or-set_same, get_or-set_other, get_or-replicate, get_or_past, drop-replicate, take-replicate}
+use Rattle.std.proofs.lemmas.List.{length-set, length-replicate, ext_get_or, get_or-set_same, get_or-set_other, get_or-replicate, get_or_past}
 use Rattle.std.proofs.lemmas.List.Elements.{All-nil, All-cons, All-head, All-tail}
 use Rattle.std.proofs.lemmas.List.FromFn.{length-map-range_with_len, get_or-map-range_with_len}
 use Rattle.pim_isa.specs.declared.draft.TheConstants.{MAX_CELLS}
@@ -16,8 +16,8 @@ use Rattle.pim_isa.specs.Touches.{operands, operand_cells}
 use Rattle.pim_isa.specs.Validity.{has}
 use Rattle.pim_isa.specs.Steps.{bit, value}
 use Rattle.pim_isa.specs.Results.{fill_bit}
-use Rattle.pim_io.specs.Lanes.{is_set, lane}
-use Rattle.pim_lanes.specs.Columns.{column_in, Stored}
+use Rattle.pim_io.specs.Lanes.{is_set, lane, column_in}
+use Rattle.pim_lanes.specs.Columns.{Stored}
 use Rattle.pim_lanes.specs.Banks.{BankView, column_of, row_of, IsRow, IsBank, SameFrame, FitsCells, column_for, fill_word}
 use Rattle.pim_lanes.proofs.BitLemmas.{is_set-zero}
 use Rattle.pim_lanes.proofs.RuleLemmas.{lane-ones}

@@ -1,5 +1,5 @@
 -- The state after an answer.
-use Rattle.std.proofs.Common.{◌≡◌, ℕ, ◌+◌, ◌-◌, ◌≤◌, Bool, false, ◌&&◌, cond, eqb, ltb, List, [], ◌∷◌, ◌++◌, length, take, drop, Option, Some, None, Result, Ok, Err, refl, sym, ap, ◌∙◌, arith}
+use Rattle.std.proofs.Common.{◌≡◌, ℕ, ◌+◌, ◌-◌, ◌≤◌, ◌&&◌, cond, ltb, List, [], ◌∷◌, ◌++◌, length, take, drop, Option, Some, None, Result, Ok, Err, refl, sym, ap, ◌∙◌, arith}
 use Rattle.std.specs.Borrow.{Bor}
 use Rattle.std.proofs.lemmas.List.{length-append, length-drop, length-take, take-take, drop-take, drop-drop}
 use Rattle.pim_io.specs.Outside.{Told}
@@ -8,7 +8,7 @@ use Rattle.pim_vectors.specs.declared.fault.LinesFault.{LinesFault}
 use Rattle.pim_vectors.specs.declared.fault.LinesFault.TheVariants as faults
 use Rattle.pim_vectors.specs.declared.sizes.Sizes.{Sizes}
 use Rattle.pim_vectors.specs.Lines.{without_return, lines, line_len}
-use Rattle.pim_vectors.specs.Next.{LinesView, handed, ended, within_limit, next_of, lines_in, rest_after, CutsLines, NoNewline, Took, IsAfter, IsNext, IsEnd}
+use Rattle.pim_vectors.specs.Next.{LinesView, handed, ended, within_limit, next_of, NoNewline, Took, IsAfter, IsNext, IsEnd}
 use Rattle.pim_vectors.proofs.Taking.{line_len-none}
 use Rattle.pim_vectors.proofs.NextLemmas.{told_map, told_both}
 

@@ -1,7 +1,7 @@
 -- What the next line is, from what stands next among the bytes that were taken.
-use Rattle.std.proofs.Common.{◌≡◌, ◌≢◌, ℕ, zero, suc, ◌+◌, ◌-◌, ◌<◌, ◌≤◌, Bool, true, false, ◌&&◌, cond, eqb, ltb, List, [], ◌∷◌, ◌++◌, ◌⊎◌, length, get_or, take, drop, Option, Some, None, Ok, Err, inl, inr, refl, sym, ap, subst, ◌∙◌, arith}
+use Rattle.std.proofs.Common.{◌≡◌, ℕ, zero, suc, ◌+◌, ◌-◌, ◌<◌, ◌≤◌, Bool, true, false, ◌&&◌, eqb, ltb, List, [], ◌∷◌, ◌++◌, ◌⊎◌, length, get_or, take, drop, Option, Some, None, Ok, Err, inl, inr, refl, sym, ap, ◌∙◌, arith}
 use Rattle.std.proofs.lemmas.Bool.{cases_lt, cases_Bool, lt-ltb, le-ltb}
-use Rattle.std.proofs.lemmas.List.{append-nil, append_assoc, length-append, length-take, length-take-le, get_or-take, get_or_append_left, take-take, take-append-le, take_all, take_at, take-append-drop, drop-append-le, drop_all, drop_more, nil_from_length}
+use Rattle.std.proofs.lemmas.List.{append-nil, append_assoc, length-append, length-take, length-take-le, get_or-take, get_or_append_left, take-take, take-append-le, take_all, take-append-drop, drop-append-le, drop_all, drop_more, nil_from_length}
 use Rattle.pim_io.specs.Lines.{is_newline}
 use Rattle.pim_io.specs.Outside.{Told}
 use Rattle.pim_vectors.specs.declared.limits.TheConstants.{MAX_LINES, MAX_BYTES}
@@ -11,7 +11,7 @@ use Rattle.pim_vectors.specs.declared.found.Found.{Found}
 use Rattle.pim_vectors.specs.declared.found.Found.TheVariants as found
 use Rattle.pim_vectors.specs.declared.sizes.Sizes.{Sizes}
 use Rattle.pim_vectors.specs.Lines.{without_return, last_line, lines_after, lines, line_len}
-use Rattle.pim_vectors.specs.Next.{LinesView, handed, ended, judged, within_limit, next_of, found_text, whole_len, NoNewline, IsDone, IsFound, IsOver, Took, IsNext, IsEnd}
+use Rattle.pim_vectors.specs.Next.{LinesView, handed, ended, judged, within_limit, next_of, found_text, whole_len, NoNewline, IsFound, IsOver, IsNext, IsEnd}
 use Rattle.pim_vectors.proofs.Taking.{line_len-none}
 
 -- ---- where bytes are told

@@ -1,5 +1,6 @@
 ghost use Rattle.std.specs.Prelude.{◌≡◌, ℕ, ◌+◌, ◌*◌, ◌<◌, ◌≤◌, ◌==◌, if◌then◌else◌, false, length, replicate, IfOk};
-ghost use Rattle.pim_vectors.specs.Tiles.{column_of, row_of, IsRow, IsTile, IsVector, SameSizes, bits_of, line_of};
+ghost use Rattle.pim_io.specs.Bits.{bits_of, line_of};
+ghost use Rattle.pim_vectors.specs.Tiles.{column_of, row_of, IsRow, IsTile, IsVector, SameSizes};
 
 use crate::rows;
 use pim_io::NoMemory;

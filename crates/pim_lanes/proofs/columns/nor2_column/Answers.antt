@@ -1,5 +1,4 @@
-use Rattle.std.proofs.Common.{Bool, ◌&&◌, ◌||◌, not, refl, sym, ◌∙◌}
-use Rattle.pim_isa.specs.Steps.{majority}
+use Rattle.std.proofs.Common.{Bool, ◌&&◌, ◌||◌, not}
 use Rattle.pim_lanes.proofs.ColumnLemmas.{stored_by}
 use Rattle.pim_lanes.proofs.columns.nor2_column.Goals as goal
 

@@ -1,5 +1,4 @@
-use Rattle.std.proofs.Common.{Bool, ◌&&◌, ◌||◌, not, refl}
-use Rattle.pim_isa.specs.Steps.{majority}
+use Rattle.std.proofs.Common.{Bool, ◌&&◌, not, refl}
 use Rattle.pim_lanes.specs.Rules.{nor1_word}
 use Rattle.pim_lanes.proofs.BitLemmas.{nor1_bit}
 use Rattle.pim_lanes.proofs.RuleLemmas.{ruled_whole, lanes_ruled}

@@ -1,5 +1,4 @@
 use Rattle.std.proofs.Common.{Bool, ◌&&◌, ◌||◌, not, refl}
-use Rattle.pim_isa.specs.Steps.{majority}
 use Rattle.pim_lanes.specs.Rules.{nor2_word}
 use Rattle.pim_lanes.proofs.BitLemmas.{nor2_bit}
 use Rattle.pim_lanes.proofs.RuleLemmas.{ruled_whole, lanes_ruled}

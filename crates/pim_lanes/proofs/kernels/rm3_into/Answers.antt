@@ -1,4 +1,4 @@
-use Rattle.std.proofs.Common.{Bool, ◌&&◌, ◌||◌, not, refl}
+use Rattle.std.proofs.Common.{Bool, not, refl}
 use Rattle.pim_isa.specs.Steps.{majority}
 use Rattle.pim_lanes.specs.Rules.{rm3_word}
 use Rattle.pim_lanes.proofs.BitLemmas.{rm3_bit}

@@ -1,6 +1,7 @@
-use Rattle.std.proofs.Common.{◌≡◌, ℕ, ◌<◌, length, get_or, set, sym, ap, ◌∙◌, arith, below_more, length-set, get_or-set_same, get_or-set_other}
+use Rattle.std.proofs.Common.{ℕ, length, ap, ◌∙◌, arith, below_more, get_or-set_same, get_or-set_other}
 use Rattle.std.proofs.lemmas.List.FromFn.{fill_by_all}
-use Rattle.pim_vectors.specs.Tiles.{is_set, lane_at, digit_of}
+use Rattle.pim_io.specs.Bits.{digit_of}
+use Rattle.pim_vectors.specs.Tiles.{lane_at}
 use Rattle.pim_vectors.proofs.rows.unpack_row.Goals as goal
 
 pub loop-column-preserved : goal.loop-column-preserved

@@ -1,5 +1,5 @@
 use Rattle.std.proofs.Common.{ℕ, List, refl, ap, ◌∙◌}
-use Rattle.pim_lanes.specs.Columns.{column_in}
+use Rattle.pim_io.specs.Lanes.{column_in}
 use Rattle.pim_lanes.specs.Banks.{BankView, column_of}
 use Rattle.pim_lanes.proofs.ColumnLemmas.{column_in_slice}
 use Rattle.pim_lanes.proofs.bank.Bank.column.Goals as goal

@@ -1,4 +1,4 @@
-use Rattle.std.proofs.Common.{ℕ, replicate, sym, ap, ◌∙◌}
+use Rattle.std.proofs.Common.{ℕ, replicate, ap, ◌∙◌}
 use Rattle.std.proofs.lemmas.List.{with_items_is}
 use Rattle.pim_isa.specs.Results.{fill_bit}
 use Rattle.pim_io.specs.Lanes.{lane}

@@ -1,8 +1,7 @@
 use Rattle.std.proofs.Common.{ℕ, Bool, not, List, set, sym, ap, ◌∙◌}
 use Rattle.std.proofs.lemmas.List.{with_items_is}
 use Rattle.pim_isa.specs.Steps.{majority}
-use Rattle.pim_io.specs.Lanes.{lane}
-use Rattle.pim_lanes.specs.Columns.{column_in}
+use Rattle.pim_io.specs.Lanes.{lane, column_in}
 use Rattle.pim_lanes.specs.Banks.{column_of, row_of}
 use Rattle.pim_lanes.proofs.BankLemmas.{row_lanes, bit-row_of, column_within}
 use Rattle.pim_lanes.proofs.bank.Bank.rm3_columns.Goals as goal

@@ -1,8 +1,7 @@
-use Rattle.std.proofs.Common.{◌≡◌, ℕ, ◌-◌, ◌≤◌, inr, List, length, take, arith}
+use Rattle.std.proofs.Common.{◌≡◌, ◌-◌, ◌≤◌, inr, length, take, arith}
 use Rattle.std.proofs.lemmas.List.{length-take}
 use Rattle.pim_vectors.specs.declared.limits.TheConstants.{MAX_BYTES}
 use Rattle.pim_vectors.specs.Lines.{line_len}
-use Rattle.pim_vectors.specs.Next.{within_limit}
 use Rattle.pim_vectors.proofs.Taking.{no_line, none_kept, took_then, kept_then, not_over, seen_more}
 use Rattle.pim_vectors.proofs.lines.Lines.find.Goals as goal
 

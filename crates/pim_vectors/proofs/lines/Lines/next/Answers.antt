@@ -1,9 +1,6 @@
-use Rattle.std.proofs.Common.{◌≡◌, ℕ, ◌+◌, ◌-◌, ◌≤◌, List, length, take, drop, Err, refl, sym, ap, ◌∙◌, arith}
-use Rattle.std.proofs.lemmas.List.{length-take}
+use Rattle.std.proofs.Common.{◌≡◌, ℕ, ◌+◌, ◌-◌, ◌≤◌, List, take, drop, Err, refl, ap, ◌∙◌, arith}
 use Rattle.std.proofs.lemmas.Result.{err_from_is_err_and}
-use Rattle.pim_vectors.specs.declared.limits.TheConstants.{MAX_BYTES}
 use Rattle.pim_vectors.specs.Next.{LinesView}
-use Rattle.pim_vectors.proofs.NextLemmas.{told_map}
 use Rattle.pim_vectors.proofs.AfterLemmas.{answer_before, answer_at_end, answer_of_line, whole_within, after_refused, after_end, after_line, held_cut, text_cut}
 use Rattle.pim_vectors.proofs.lines.Lines.next.Goals as goal
 
