@@ -1,9 +1,8 @@
 -- The vectors of a text, one line after another, and what a program makes of them.
-use Rattle.std.specs.Prelude.{◌≡◌, ◌≢◌, ℕ, zero, suc, ◌+◌, ◌-◌, ◌*◌, ◌%◌, ◌<◌, ◌≤◌, ◌&&◌, nat_le, if◌then◌else◌, Bool, true, false, List, [], ◌∷◌, ◌++◌, length, map, take, drop, Option, Some, None, Result, Ok, Err}
-use Rattle.std.specs.List.{flat_map}
+use Rattle.std.specs.Prelude.{◌≡◌, ◌≢◌, ℕ, zero, suc, ◌+◌, ◌-◌, ◌*◌, ◌%◌, ◌<◌, ◌≤◌, if◌then◌else◌, Bool, true, false, List, [], ◌∷◌, ◌++◌, length, map, take, drop, Option, Some, None, Result, Ok, Err}
 use Rattle.pim_isa.specs.Programs.{ProgramView}
-use Rattle.pim_io.specs.Bits.{bits_of, line_of}
-use Rattle.pim_isa.specs.Results.{result_of}
+use Rattle.pim_io.specs.Bits.{bits_of}
+use Rattle.pim_batch.specs.Tables.{table, tile_rows}
 use Rattle.pim_isa.specs.declared.target.Fill.{Fill}
 use Rattle.pim_vectors.specs.Lines.{line_len, lines}
 use Rattle.pim_vectors.specs.Next.{LinesView, next_of}
@@ -15,25 +14,9 @@ use Rattle.pim_top.specs.declared.refusal.Origin.TheVariants.{Input}
 use Rattle.pim_top.specs.declared.refusal.Refusal.{Refusal}
 use Rattle.pim_top.specs.declared.refusal.Refusal.TheVariants as refusal
 
--- the line that a program gives for the bits of a vector
-abbrev pub result_line : ProgramView → Fill → List Bool → List ℕ
-result_line p fill bits = line_of (result_of p fill bits) ++ 10 ∷ []
-
--- the lines that a program gives for vectors, one after another
-abbrev pub table : ProgramView → Fill → List (List Bool) → List ℕ
-table p fill vectors = flat_map (result_line p fill) vectors
-
 -- the bits of each line of the bytes
 abbrev pub vectors_of : List ℕ → List (List Bool)
 vectors_of bytes = map bits_of (lines bytes)
-
--- how many words a column of a tile has: 64 rows in each
-abbrev pub tile_words : ProgramView → ℕ
-tile_words p = if nat_le p.cells 65536 && nat_le (length p.outputs) 65536 then 64 else 4
-
--- how many rows are executed together
-abbrev pub tile_rows : ProgramView → ℕ
-tile_rows p = 64 * tile_words p
 
 -- of so many rows, those that fill tiles
 abbrev pub full_rows : ProgramView → ℕ → ℕ

@@ -6,7 +6,7 @@ use Rattle.pim_lanes.specs.Banks.{BankView}
 use Rattle.std.specs.List.{flat_map, range_with_len}
 use Rattle.pim_io.specs.Bits.{line_of}
 use Rattle.pim_vectors.specs.Tiles.{TileView, row_of}
-use Rattle.pim_top.specs.Vectors.{tile_words}
+use Rattle.pim_batch.specs.Tables.{tile_words}
 
 -- the program, the filling of its other cells, and the bits of the vectors that are packed
 pub record BatchView : Type 0 where

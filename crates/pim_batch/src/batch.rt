@@ -6,8 +6,8 @@ ghost use Rattle.pim_isa.specs.Results.{load};
 ghost use Rattle.pim_isa.specs.Steps.{bit};
 ghost use Rattle.pim_lanes.specs.Banks.{row_of, SameFrame};
 ghost use Rattle.pim_vectors.specs.Tiles.{IsVector, row_of as tile_row};
-ghost use Rattle.pim_top.specs.Batches.{row_lines};
-ghost use Rattle.pim_top.specs.Vectors.{table, tile_rows, tile_words};
+ghost use Rattle.pim_batch.specs.Batches.{row_lines};
+ghost use Rattle.pim_batch.specs.Tables.{table, tile_rows, tile_words};
 
 use pim_io::{NoMemory, Sink, SinkFault, write_all};
 use pim_isa::{Fill, Program};
@@ -19,7 +19,7 @@ use std::marker::Model;
 /// The vectors that were packed and not executed yet, with all that executing them takes: a bank, a tile of vectors, a tile
 /// of results and one line of them.
 #[derive(Debug, Drop)]
-pub(crate) struct Batch<'a> {
+pub struct Batch<'a> {
     program: &'a Program,
     fill: Fill,
     bank: Bank,
@@ -33,7 +33,7 @@ impl<'a> Model for Batch<'a> {
     ghost use Rattle.std.specs.Prelude.{map};
     ghost use Rattle.std.specs.List.{range_with_len};
     ghost use Rattle.pim_vectors.specs.Tiles.{row_of};
-    ghost use Rattle.pim_top.specs.Batches.{BatchView, IsBatch};
+    ghost use Rattle.pim_batch.specs.Batches.{BatchView, IsBatch};
 
     ghost Value = { BatchView };
 
@@ -48,7 +48,7 @@ impl<'a> Model for Batch<'a> {
 
 impl<'a> Batch<'a> {
     /// A batch of no vectors. Takes all the memory that executing vectors takes.
-    pub(crate) fn new(alloc: Global, program: &'a Program, fill: Fill) -> Result<Batch<'a>, NoMemory>
+    pub fn new(alloc: Global, program: &'a Program, fill: Fill) -> Result<Batch<'a>, NoMemory>
         ensures { IfOk result (λ batch. batch ≡ record { program = program.now; fill = fill; vectors = [] }) }
     {
         let words = tile_words(program);
@@ -66,7 +66,7 @@ impl<'a> Batch<'a> {
     }
 
     /// Whether no further vector can be packed.
-    pub(crate) fn is_full(&self) -> bool
+    pub fn is_full(&self) -> bool
         ensures full { IsTrue result ↔ (length self.now.vectors ≡ tile_rows self.now.program) }
         ensures within { length self.now.vectors ≤ tile_rows self.now.program }
     {
@@ -74,7 +74,7 @@ impl<'a> Batch<'a> {
     }
 
     /// Packs one more vector.
-    pub(crate) fn push(&mut self, line: &[u8])
+    pub fn push(&mut self, line: &[u8])
         requires vector { IsVector (length self.old.program.inputs) line.now }
         requires room { length self.old.vectors < tile_rows self.old.program }
         ensures { self.new ≡ record self.old { vectors = self.old.vectors ++ bits_of line.now ∷ [] } }
@@ -84,7 +84,7 @@ impl<'a> Batch<'a> {
     }
 
     /// Executes the vectors that are packed and writes a line for each; none is packed then.
-    pub(crate) fn flush<K: Sink>(&mut self, output: &mut K) -> Result<(), SinkFault>
+    pub fn flush<K: Sink>(&mut self, output: &mut K) -> Result<(), SinkFault>
         ensures whole { OnOk result (TookAll (K.taken output.old) (K.taken output.new)
             (table self.old.program self.old.fill self.old.vectors)) }
         ensures prefix { OnErr result (TookFirst (K.taken output.old) (K.taken output.new)

@@ -1,0 +1,7 @@
+//! Vectors that are executed together: each is a row of a tile, a program runs in all rows of a bank at once, and a line of
+//! characters is written for each.
+#![tactic(auto)]
+
+mod batch;
+
+pub use batch::Batch;
