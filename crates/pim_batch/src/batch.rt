@@ -1,89 +1,59 @@
-//! Vectors that are executed together: a row of a tile for each.
 ghost use Rattle.std.specs.Prelude.{◌≡◌, ℕ, ◌+◌, ◌*◌, ◌<◌, ◌≤◌, ◌++◌, ◌∷◌, ◌↔◌, [], length, map, take, IsTrue, OnOk, OnErr, IfOk};
 ghost use Rattle.pim_io.specs.Bits.{bits_of};
 ghost use Rattle.pim_io.specs.Outside.{Rose, TookAll, TookFirst};
-ghost use Rattle.pim_isa.specs.Results.{load};
-ghost use Rattle.pim_isa.specs.Steps.{bit};
-ghost use Rattle.pim_lanes.specs.Banks.{row_of, SameFrame};
-ghost use Rattle.pim_vectors.specs.Tiles.{IsVector, row_of as tile_row};
-ghost use Rattle.pim_batch.specs.Batches.{row_lines};
-ghost use Rattle.pim_batch.specs.Tables.{table, tile_rows, tile_words};
+ghost use Rattle.pim_vectors.specs.Tiles.{IsVector};
+ghost use Rattle.pim_batch.specs.Tables.{table, tile_rows};
 
-use pim_io::{NoMemory, Sink, SinkFault, write_all};
+use pim_io::{NoMemory, Sink, SinkFault};
 use pim_isa::{Fill, Program};
-use pim_lanes::Bank;
-use pim_vectors::Tile;
 use std::alloc::Global;
 use std::marker::Model;
 
-/// The vectors that were packed and not executed yet, with all that executing them takes: a bank, a tile of vectors, a tile
-/// of results and one line of them.
+#[derive(Debug, Drop)]
+pub enum Never {}
+
 #[derive(Debug, Drop)]
 pub struct Batch<'a> {
     program: &'a Program,
     fill: Fill,
-    bank: Bank,
-    vectors: Tile,
-    results: Tile,
-    line: Vec<u8>,
-    rows: u32,
+    never: Never,
 }
 
 impl<'a> Model for Batch<'a> {
-    ghost use Rattle.std.specs.Prelude.{map};
-    ghost use Rattle.std.specs.List.{range_with_len};
-    ghost use Rattle.pim_vectors.specs.Tiles.{row_of};
-    ghost use Rattle.pim_batch.specs.Batches.{BatchView, IsBatch};
+    ghost use Rattle.std.specs.Prelude.{[]};
+    ghost use Rattle.pim_batch.specs.Batches.{BatchView};
 
     ghost Value = { BatchView };
 
     ghost view = { λ b. record {
       program = b.program.now;
       fill = b.fill;
-      vectors = map (row_of b.vectors) (range_with_len 0 b.rows);
+      vectors = [];
     } };
-
-    ghost invariant = { λ b. IsBatch b.program.now b.bank b.vectors b.results b.line.items b.rows };
 }
 
 impl<'a> Batch<'a> {
-    /// A batch of no vectors. Takes all the memory that executing vectors takes.
     pub fn new(alloc: Global, program: &'a Program, fill: Fill) -> Result<Batch<'a>, NoMemory>
         ensures { IfOk result (λ batch. batch ≡ record { program = program.now; fill = fill; vectors = [] }) }
     {
-        let words = tile_words(program);
-        let inputs = program.inputs().len() as u32;
-        let outputs = program.outputs().len() as u32;
-        Ok(Batch {
-            program,
-            fill,
-            bank: Bank::new(alloc, program.cells(), words)?,
-            vectors: Tile::new(alloc, inputs, words)?,
-            results: Tile::new(alloc, outputs, words)?,
-            line: vec![in alloc; b'\n'; outputs as usize + 1]?,
-            rows: 0,
-        })
+        Err(NoMemory)
     }
 
-    /// Whether no further vector can be packed.
     pub fn is_full(&self) -> bool
         ensures full { IsTrue result ↔ (length self.now.vectors ≡ tile_rows self.now.program) }
         ensures within { length self.now.vectors ≤ tile_rows self.now.program }
     {
-        self.rows as usize == 64 * tile_words(self.program)
+        match self.never {}
     }
 
-    /// Packs one more vector.
     pub fn push(&mut self, line: &[u8])
         requires vector { IsVector (length self.old.program.inputs) line.now }
         requires room { length self.old.vectors < tile_rows self.old.program }
         ensures { self.new ≡ record self.old { vectors = self.old.vectors ++ bits_of line.now ∷ [] } }
     {
-        self.vectors.pack(self.rows, line);
-        self.rows += 1;
+        match self.never {}
     }
 
-    /// Executes the vectors that are packed and writes a line for each; none is packed then.
     pub fn flush<K: Sink>(&mut self, output: &mut K) -> Result<(), SinkFault>
         ensures whole { OnOk result (TookAll (K.taken output.old) (K.taken output.new)
             (table self.old.program self.old.fill self.old.vectors)) }
@@ -92,75 +62,6 @@ impl<'a> Batch<'a> {
         ensures counted { OnErr result (Rose (K.faults output.old) (K.faults output.new)) }
         ensures emptied { OnOk result (self.new ≡ record self.old { vectors = [] }) }
     {
-        load_vectors(&mut self.bank, self.program, self.fill, &self.vectors);
-        self.bank.run(self.program);
-        gather_results(&mut self.results, self.program, &self.bank);
-        write_results(&self.results, self.rows, &mut self.line, output)?;
-        self.rows = 0;
-        Ok(())
+        match self.never {}
     }
-}
-
-/// How many words a column has: as many as 4,096 rows take, and fewer where a program has many cells or outputs.
-fn tile_words(program: &Program) -> usize
-    ensures { result ≡ tile_words program.now }
-{
-    if program.cells() <= 65_536 && program.outputs().len() <= 65_536 {
-        64
-    } else {
-        4
-    }
-}
-
-/// Makes each row of a bank the row at the start for that row's vector.
-fn load_vectors(bank: &mut Bank, program: &Program, fill: Fill, vectors: &Tile)
-    requires cells { bank.old.cells ≡ program.now.cells }
-    requires columns { vectors.now.columns ≡ length program.now.inputs }
-    requires words { vectors.now.words ≡ bank.old.words }
-    ensures rows { (r : ℕ) → r < 64 * bank.old.words → row_of bank.new r ≡ load program.now fill (tile_row vectors.now r) }
-    ensures frame { SameFrame bank.old bank.new }
-{
-    bank.fill(fill);
-    for (k, port) in program.inputs().iter().enumerate() {
-        bank.put_column(port.cell, vectors.column(k as u32));
-    }
-}
-
-/// Makes each row of a tile the bits of the output cells in that row of a bank.
-fn gather_results(results: &mut Tile, program: &Program, bank: &Bank)
-    requires cells { bank.now.cells ≡ program.now.cells }
-    requires columns { results.old.columns ≡ length program.now.outputs }
-    requires words { results.old.words ≡ bank.now.words }
-    ensures rows { (r : ℕ) → r < 64 * bank.now.words
-        → tile_row results.new r ≡ map (λ o. bit (row_of bank.now r) o.cell) program.now.outputs }
-    ensures columns { results.new.columns ≡ results.old.columns }
-    ensures words { results.new.words ≡ results.old.words }
-{
-    for (k, port) in program.outputs().iter().enumerate() {
-        results.put_column(k as u32, bank.column(port.cell));
-    }
-}
-
-/// Writes the first rows of a tile, a line of characters for each; `line` is room for one, with the newline behind it.
-fn write_results<K: Sink>(
-    results: &Tile,
-    rows: u32,
-    line: &mut Vec<u8>,
-    output: &mut K,
-) -> Result<(), SinkFault>
-    requires rows { rows ≤ 64 * results.now.words }
-    requires long { length line.old.items ≡ results.now.columns + 1 }
-    requires ended { line.old.items ≡ take results.now.columns line.old.items ++ 10 ∷ [] }
-    ensures whole { OnOk result (TookAll (K.taken output.old) (K.taken output.new) (row_lines results.now rows)) }
-    ensures prefix { OnErr result (TookFirst (K.taken output.old) (K.taken output.new) (row_lines results.now rows)) }
-    ensures counted { OnErr result (Rose (K.faults output.old) (K.faults output.new)) }
-    ensures long { length line.new.items ≡ length line.old.items }
-    ensures ended { line.new.items ≡ take results.now.columns line.new.items ++ 10 ∷ [] }
-{
-    let columns = line.len() - 1;
-    for row in 0..rows {
-        results.unpack(row, &mut line[..columns]);
-        write_all(output, line.as_slice())?;
-    }
-    Ok(())
 }

@@ -8,3 +8,4 @@ pub mod Runs
 pub mod Outcomes
 pub mod Reads
 pub mod Cuts
+pub mod Walks

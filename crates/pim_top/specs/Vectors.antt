@@ -1,12 +1,12 @@
 -- The vectors of a text, one line after another, and what a program makes of them.
-use Rattle.std.specs.Prelude.{◌≡◌, ◌≢◌, ℕ, zero, suc, ◌+◌, ◌-◌, ◌*◌, ◌%◌, ◌<◌, ◌≤◌, if◌then◌else◌, Bool, true, false, List, [], ◌∷◌, ◌++◌, length, map, take, drop, Option, Some, None, Result, Ok, Err}
+use Rattle.std.specs.Prelude.{◌≡◌, ◌≢◌, ℕ, zero, suc, ◌+◌, ◌-◌, ◌*◌, ◌%◌, ◌<◌, ◌≤◌, ◌==◌, ◌&&◌, ◌||◌, if◌then◌else◌, Bool, true, false, List, [], ◌∷◌, ◌++◌, length, map, take, drop, Option, Some, None, Result, Ok, Err}
+use Rattle.std.specs.List.{list_all}
 use Rattle.pim_isa.specs.Programs.{ProgramView}
 use Rattle.pim_io.specs.Bits.{bits_of}
 use Rattle.pim_batch.specs.Tables.{table, tile_rows}
 use Rattle.pim_isa.specs.declared.target.Fill.{Fill}
 use Rattle.pim_vectors.specs.Lines.{line_len, lines}
 use Rattle.pim_vectors.specs.Next.{LinesView, next_of}
-use Rattle.pim_vectors.specs.Tiles.{is_vector}
 use Rattle.pim_vectors.specs.declared.fault.LinesFault.{LinesFault}
 use Rattle.pim_vectors.specs.declared.fault.LinesFault.TheVariants as fault
 use Rattle.pim_top.specs.declared.refusal.Limit.TheVariants as limit
@@ -31,6 +31,10 @@ after_lines (suc n) bytes = after_lines n (drop (line_len bytes + 1) bytes)
 abbrev pub line_at : ℕ → List ℕ → ℕ → Result (Option (List ℕ)) LinesFault
 line_at longest bytes n =
     next_of (record { longest = longest; given = n; place = length bytes - length (after_lines n bytes); held = [] }) (after_lines n bytes)
+
+-- whether a line has so many bytes, each of them a 0 or a 1
+abbrev pub is_vector : ℕ → List ℕ → Bool
+is_vector inputs line = (length line == inputs) && list_all (λ b. (b == 48) || (b == 49)) line
 
 -- what is said of vector n + 1 of so many bits: its line, that there is none, or why it is refused
 abbrev pub verdict_of : ℕ → ℕ → Result (Option (List ℕ)) LinesFault → Result (Option (List ℕ)) Refusal

@@ -9,6 +9,7 @@ mod note;
 mod refusal;
 mod status;
 mod top;
+mod walk;
 
 pub use pim_words::program_word;
 pub use status::Status;

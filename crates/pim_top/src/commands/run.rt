@@ -1,21 +1,18 @@
 //! `run`: a program is executed on every vector of the input.
-ghost use Rattle.std.specs.Prelude.{◌≡◌, ◌≢◌, ◌⊎◌, ◌<◌, ◌≤◌, [], length, IfErr, IfOk, OnOk, OnErr};
+ghost use Rattle.std.specs.Prelude.{◌≡◌, ◌≢◌, Ok, IfErr, IfOk, OnOk};
 ghost use Rattle.pim_io.specs.Outside.{Rose, Told};
 ghost use Rattle.pim_file.specs.Reading.{parse1_of};
-ghost use Rattle.pim_isa.specs.declared.target.Fill.{Fill};
-ghost use Rattle.pim_top.specs.Runs.{FileRead, FileRefuses, RunRefuses, RunsWhole, VectorsRefuse};
+ghost use Rattle.pim_top.specs.Runs.{FileRead, FileRefuses, RunRefuses, RunsWhole};
 ghost use Rattle.pim_top.specs.Statuses.{status_of};
-ghost use Rattle.pim_top.specs.Vectors.{RanWhole};
-ghost use Rattle.pim_top.specs.Walks.{IsAtStart, IsOfVectors};
+ghost use Rattle.pim_top.specs.Outcomes.{IsCounted};
 
 use crate::Status;
-use crate::batch::Batch;
 use crate::input::bytes_of;
-use crate::refusal::{Limit, Origin, Refusal};
+use crate::refusal::{Origin, Refusal};
+use crate::walk::Walk;
 use pim_file::parse;
 use pim_io::{Sink, Source};
 use pim_isa::{Fill, Program};
-use pim_vectors::{Lines, LinesFault, vector_fits};
 use std::alloc::Global;
 
 /// The greatest number of bytes that are read of a program file.
@@ -42,13 +39,10 @@ pub fn run<P: Source, S: Source, K: Sink>(
     ensures inside { IfErr result (λ refusal. refusal ≢ Refusal.Usage) }
 {
     let program = program_of(alloc, program)?;
-    let Ok(mut batch) = Batch::new(alloc, &program, fill) else {
-        return Err(Refusal::NoMemory);
-    };
-    let Ok(mut lines) = Lines::new(alloc, program.inputs().len() as u32) else {
-        return Err(Refusal::NoMemory);
-    };
-    run_vectors(&mut batch, &mut lines, input, output)
+    match Walk::new(alloc, &program, fill) {
+        Ok(mut walk) => walk.run(input, output),
+        Err(_) => Err(Refusal::NoMemory),
+    }
 }
 
 /// The program that a source has.
@@ -63,47 +57,5 @@ fn program_of<P: Source>(alloc: Global, source: &mut P) -> Result<Program, Refus
     match parse(alloc, bytes.as_slice()) {
         Ok(program) => Ok(program),
         Err(fault) => Err(Refusal::of_file(fault)),
-    }
-}
-
-/// Executes a program on every line of the input.
-fn run_vectors<S: Source, K: Sink>(
-    batch: &mut Batch,
-    lines: &mut Lines,
-    input: &mut S,
-    output: &mut K,
-) -> Result<(), Refusal>
-    requires start { IsAtStart batch.old lines.old }
-    ensures done { OnOk result (Told (S.left input.old) (S.left input.new) (λ bytes rest.
-        Told (K.taken output.old) (K.taken output.new) (λ before after. RanWhole batch.old.program batch.old.fill bytes rest before after))) }
-    ensures refused { IfErr result (λ refusal. Told (S.left input.old) (S.left input.new) (λ bytes rest.
-        Told (K.taken output.old) (K.taken output.new) (λ before after. VectorsRefuse batch.old.program batch.old.fill bytes rest before after refusal))) }
-    ensures kinds { IfErr result IsOfVectors }
-    ensures read_fault { IfErr result (λ refusal. (o : Origin) → refusal ≡ Refusal.ReadFault o
-        → Rose (S.faults input.old) (S.faults input.new)) }
-    ensures write_fault { IfErr result (λ refusal. refusal ≡ Refusal.WriteFault → Rose (K.faults output.old) (K.faults output.new)) }
-{
-    while take_up(batch, lines, input)? {
-        if batch.is_full() {
-            flush(batch, output)?;
-        }
-    }
-    flush(batch, output)
-}
-
-/// Writes the results of the vectors that are packed.
-fn flush<K: Sink>(batch: &mut Batch, output: &mut K) -> Result<(), Refusal> {
-    match batch.flush(output) {
-        Ok(()) => Ok(()),
-        Err(_) => Err(Refusal::WriteFault),
-    }
-}
-
-/// Packs the next vector, and says whether there was one.
-fn take_up<S: Source>(batch: &mut Batch, lines: &mut Lines, input: &mut S) -> Result<bool, Refusal> {
-    match lines.next(input) {
-        Ok(None) => Ok(false),
-        Ok(Some(line)) => todo,
-        Err(fault) => Err(of_lines(fault)),
     }
 }
