@@ -3,12 +3,13 @@ use Rattle.std.specs.Prelude.{◌≡◌, ℕ, ◌+◌, ◌<◌, ◌≤◌, lengt
 use Rattle.pim_net.specs.Netlist.{NetView}
 use Rattle.pim_aig.specs.Flat.{ands, flat}
 use Rattle.pim_nor.specs.Lowered.{nors}
+use Rattle.pim_nor.specs.declared.lowering.Width.TheVariants.{Two}
 use Rattle.pim_compile.specs.declared.refusal.Refusal.{Refusal}
 use Rattle.pim_compile.specs.declared.refusal.Refusal.TheVariants.{TooFewCells, TooLarge, NoMemory}
 
 -- the cells that the wide schedule takes: one for each input and one for each gate of the flat graph's network
 abbrev pub wide_need : NetView → ℕ
-wide_need n = (flat n).inputs + length (nors (flat n)).gates
+wide_need n = (flat n).inputs + length (nors (flat n) Two).gates
 
 -- the flat graph has at most 1,048,576 AND nodes, and the budget is at least the need
 pub record IsAccepted (n : NetView) (budget : ℕ) : Type 0 where

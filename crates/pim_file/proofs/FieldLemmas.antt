@@ -1,15 +1,15 @@
 -- Where the spaces of a text cut it into fields, and which numbers these spell.
-use Rattle.std.proofs.Common.{◌≡◌, ℕ, ◌+◌, ◌-◌, ◌^◌, ◌<◌, ◌≤◌, Bool, true, false, cond, not, ltb, leb, eqb, ◌&&◌, List, [], ◌∷◌, ◌++◌, length, map, Option, Some, None, refl, ap, sym, ◌∙◌, arith, take, drop}
+use Rattle.std.proofs.Common.{◌≡◌, ℕ, ◌+◌, ◌-◌, ◌^◌, ◌<◌, ◌≤◌, Bool, true, false, cond, not, ltb, leb, eqb, List, [], ◌∷◌, ◌++◌, length, map, Option, Some, None, refl, ap, sym, ◌∙◌, arith, take, drop}
 use Rattle.std.specs.Prelude.{◌==◌}
 use Rattle.std.specs.Fmt.{decimal}
-use Rattle.std.specs.List.{position, position_or_len, slice_split, onto_first, list_all, join_with_byte}
+use Rattle.std.specs.List.{position, position_or_len, list_all, join_with_byte}
 use Rattle.std.specs.Option.{option_map, option_and_then}
 use Rattle.std.proofs.lemmas.Bool.{ltb-true, ltb-false, leb-true, ne_eqb, and_parts, not-true}
 use Rattle.std.proofs.lemmas.Fmt.{digits_decimal}
 use Rattle.std.proofs.lemmas.List.{take_rest, append-nil}
 use Rattle.std.proofs.lemmas.List.Splits.{slice_split_first, join_with_byte-slice_split}
 use Rattle.pim_io.specs.Words.{is_digit}
-use Rattle.pim_file.specs.Fields.{is_space, fields, fields_left, plain_number, numbers_of}
+use Rattle.pim_file.specs.Fields.{is_space, fields, plain_number, numbers_of}
 use Rattle.pim_file.specs.Spelled.{AreSpelled}
 use Rattle.pim_file.specs.Text.{numbers_text}
 use Rattle.pim_file.proofs.NumberLemmas.{own, plain_number-decimal, word_is_decimal}

@@ -1,5 +1,5 @@
 -- The line of an instruction is read as that instruction, and no other line is.
-use Rattle.std.proofs.Common.{◌≡◌, ℕ, ◌+◌, ◌^◌, ◌<◌, Bool, true, false, cond, List, [], ◌∷◌, ◌++◌, length, map, Option, Some, None, codes, refl, ap, sym, ◌∙◌, subst, append_assoc, arith}
+use Rattle.std.proofs.Common.{◌≡◌, ℕ, ◌^◌, ◌<◌, Bool, true, false, cond, List, [], ◌∷◌, ◌++◌, map, Option, Some, None, codes, refl, ap, sym, ◌∙◌, subst, append_assoc, arith}
 use Rattle.std.specs.Fmt.{decimal}
 use Rattle.std.specs.List.{join_with_byte}
 use Rattle.std.specs.Option.{option_map, option_and_then}
@@ -12,12 +12,12 @@ use Rattle.pim_isa.specs.declared.instr.Operand.TheVariants.{Zero, One, Cell}
 use Rattle.pim_isa.specs.declared.instr.Instr.{Instr}
 use Rattle.pim_isa.specs.declared.instr.Instr.TheVariants.{Init, Nor, Rm3}
 use Rattle.pim_file.specs.Fields.{fields, behind, plain_number, number_at, numbers_of}
-use Rattle.pim_file.specs.InstrForms.{cell_of, operand_of, operand_at, cell_at, closed, init_of, not_of, nor_from_two, nor_from_three, nor_of, rm3_of, instr_from, instr_of_fields, instr_of}
+use Rattle.pim_file.specs.InstrForms.{cell_of, operand_of, operand_at, cell_at, closed, init_of, not_of, nor_from_two, nor_from_three, nor_of, rm3_of, instr_of_fields, instr_of}
 use Rattle.pim_file.specs.Spelled.{AreSpelled, IsSpelledOperand, HasLine}
-use Rattle.pim_file.specs.Text.{numbers_text, operand_text, nor_text, instr_text}
+use Rattle.pim_file.specs.Text.{operand_text, nor_text, instr_text}
 use Rattle.pim_file.proofs.LineLemmas.{bind_some, some_is, behind_is, mapped}
 use Rattle.pim_file.proofs.NumberLemmas.{plain_number-decimal, word_is_decimal}
-use Rattle.pim_file.proofs.FieldLemmas.{lacks, lacks-append, lacks-decimal, fields-word, fields-only, fields-numbers, join-fields, join-numbers, numbers_of-decimal, fields_are_decimal}
+use Rattle.pim_file.proofs.FieldLemmas.{lacks, lacks-decimal, fields-word, fields-only, fields-numbers, join-fields, join-numbers, numbers_of-decimal, fields_are_decimal}
 
 -- the fields of an instruction
 abbrev nor_fields : ℕ → Ins → List (List ℕ)

@@ -1,6 +1,6 @@
 -- The laws of reading and printing: a program's text is read as it, nothing else is, and a draft has few parts.
-use Rattle.std.proofs.Common.{◌≡◌, ℕ, ◌+◌, ◌*◌, ◌^◌, ◌<◌, ◌≤◌, Bool, true, false, cond, ltb, List, [], ◌∷◌, ◌++◌, length, map, Option, Some, None, Result, Ok, Err, codes, refl, take, ap, sym, ◌∙◌, subst, arith}
-use Rattle.std.specs.Prelude.{◌↔◌, All, IfOk}
+use Rattle.std.proofs.Common.{◌≡◌, ℕ, ◌+◌, ◌*◌, ◌^◌, ◌<◌, ◌≤◌, Bool, true, false, cond, ltb, List, [], ◌∷◌, ◌++◌, length, Option, Some, None, Result, Ok, Err, codes, refl, take, ap, sym, ◌∙◌, subst, arith}
+use Rattle.std.specs.Prelude.{◌↔◌, IfOk}
 use Rattle.std.specs.Fmt.{decimal}
 use Rattle.std.specs.List.{AllByRecursion}
 use Rattle.std.proofs.lemmas.Bool.{le-ltb}
@@ -19,14 +19,15 @@ use Rattle.pim_isa.specs.declared.invalid.Invalid.{Invalid}
 use Rattle.pim_isa.specs.declared.draft.TheConstants.{MAX_CELLS}
 use Rattle.pim_isa.specs.Programs.{ProgramView}
 use Rattle.pim_isa.specs.Sound.{cells_of, IsValid, HasLabel, IsProgram}
-use Rattle.pim_isa.specs.Touches.{operands, operand_cells, names}
+use Rattle.pim_isa.specs.Touches.{operand_cells, names}
 use Rattle.pim_isa.specs.Validity.{fault_of}
 use Rattle.pim_file.specs.declared.fault.FileFault.{FileFault}
 use Rattle.pim_file.specs.declared.fault.FileFault.TheVariants as faults
 use Rattle.pim_file.specs.Spelled.{IsSpelledOperand, HasLine, HasPortLine, HasText, HasFewParts}
 use Rattle.pim_file.specs.Steps.{◌>>=◌, Gives}
 use Rattle.pim_file.specs.Text.{instr_text, nor_text, counted_text, port_text, ports_text, instrs_text, head_text, text as text_of}
-use Rattle.pim_file.specs.Reading.{start, read_from, any_size, within_limit, draft_of, with_fault, validated, sized, parse1_of, program_within_limit}
+use Rattle.pim_file.specs.Reading.{start}
+use Rattle.pim_file.specs.ProgramFile.{read_from, any_size, within_limit, draft_of, with_fault, validated, sized, parse1_of, program_within_limit}
 use Rattle.pim_file.proofs.LimitLemmas.{start_kept}
 use Rattle.pim_file.proofs.ReadBack.{draft_of-text, draft_of-cut}
 use Rattle.pim_file.proofs.OneText.{bind_ok, ok_is, draft_is}

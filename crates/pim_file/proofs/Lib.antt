@@ -9,3 +9,4 @@ pub mod NumberLemmas
 pub mod OneText
 pub mod ReadBack
 mod ReadExamples
+pub mod RightLemmas

@@ -1,8 +1,8 @@
 -- The lines of a target, of a number and of a port are read as what they spell, and no other lines are.
-use Rattle.std.proofs.Common.{◌≡◌, ℕ, suc, ◌+◌, ◌^◌, ◌<◌, Bool, true, false, cond, not, ltb, eqb, List, [], ◌∷◌, ◌++◌, length, Option, Some, None, codes, refl, ap, sym, ◌∙◌, subst, append_assoc, arith, take, drop}
+use Rattle.std.proofs.Common.{◌≡◌, ℕ, ◌+◌, ◌^◌, ◌<◌, Bool, true, false, cond, not, ltb, eqb, List, [], ◌∷◌, ◌++◌, length, Option, Some, None, codes, refl, ap, sym, ◌∙◌, subst, append_assoc, arith, take, drop, ◌⊎◌, inl, inr}
 use Rattle.std.specs.Fmt.{decimal}
 use Rattle.std.specs.List.{position, position_or_len, onto_first, join_with_byte}
-use Rattle.std.specs.Option.{option_map, option_and_then}
+use Rattle.std.specs.Option.{option_map, option_and_then, option_or}
 use Rattle.std.specs.Str.{bytes_eq}
 use Rattle.std.proofs.lemmas.Bool.{and_parts, not-true, lt-ltb}
 use Rattle.std.proofs.lemmas.List.{take_at, drop_at, take-append-drop, length-append}
@@ -35,6 +35,11 @@ bind_some (Some x) f y e = (x, refl, e)
 pub mapped : {A B : Type 0} (f : A → B) (o : Option A) (y : B) → option_map f o ≡ Some y → (x : A) × (o ≡ Some x) × (f x ≡ y)
 mapped f None y e = absurd cc
 mapped f (Some x) y e = (x, refl, some_is (f x) y e)
+
+-- the first of two options, or the second
+pub or_is : {A : Type 0} (a b : Option A) (y : A) → option_or a b ≡ Some y → (a ≡ Some y) ⊎ (b ≡ Some y)
+or_is None b y e = inr e
+or_is (Some x) b y e = inl e
 
 -- fronts
 
@@ -138,9 +143,9 @@ labelled_is cell text port e =
 pub port_is : (word line : List ℕ) (port : Port) → port_of word line ≡ Some port → (line ≡ port_line word port) × HasPortLine port
 port_is word line port e =
     let a = bind_some (behind word line) (λ text. option_and_then (λ space. option_and_then (λ cell. labelled cell (drop (space + 1) text)) (plain_number (take space text))) (position is_space text)) port e in
-    let text = a.0 in
+    let text : List ℕ = a.0 in
     let b = bind_some (position is_space text) (λ space. option_and_then (λ cell. labelled cell (drop (space + 1) text)) (plain_number (take space text))) port a.2 in
-    let space = b.0 in
+    let space : ℕ = b.0 in
     let c = bind_some (plain_number (take space text)) (λ cell. labelled cell (drop (space + 1) text)) port b.2 in
     let number = word_is_decimal (take space text) c.0 c.1 in
     let label = labelled_is c.0 (drop (space + 1) text) port c.2 in

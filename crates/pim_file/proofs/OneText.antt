@@ -1,8 +1,8 @@
 -- What is read as a draft is the text of that draft.
-use Rattle.std.proofs.Common.{◌≡◌, ℕ, suc, ◌+◌, ◌-◌, ◌^◌, ◌<◌, ◌≤◌, Bool, true, false, cond, eqb, ◌||◌, ◌⊎◌, inl, inr, List, [], ◌∷◌, ◌++◌, length, Option, Some, None, Result, Ok, Err, codes, refl, ap, sym, ◌∙◌, subst, append_assoc, add-zero, arith}
+use Rattle.std.proofs.Common.{◌≡◌, ℕ, ◌+◌, ◌-◌, ◌^◌, ◌<◌, Bool, true, false, cond, eqb, ◌||◌, inl, inr, List, [], ◌∷◌, ◌++◌, length, Option, Some, None, Result, Ok, Err, codes, refl, ap, sym, ◌∙◌, subst, append_assoc, add-zero, arith}
 use Rattle.std.specs.Fmt.{decimal}
 use Rattle.std.specs.List.{AllByRecursion}
-use Rattle.std.specs.Option.{MatchOption, option_map, option_or, ok_or}
+use Rattle.std.specs.Option.{MatchOption, option_map, ok_or}
 use Rattle.std.specs.Str.{bytes_eq}
 use Rattle.std.proofs.lemmas.Bool.{eqb-true, eqb-false}
 use Rattle.std.proofs.lemmas.List.{append-nil, length_push}
@@ -22,8 +22,9 @@ use Rattle.pim_file.specs.InstrForms.{instr_of}
 use Rattle.pim_file.specs.Spelled.{HasLine, HasPortLine, HasText}
 use Rattle.pim_file.specs.Steps.{◌>>=◌}
 use Rattle.pim_file.specs.Text.{target_word, instr_text, counted_text, port_text, ports_text, instrs_text, head_text, text as text_of}
-use Rattle.pim_file.specs.Reading.{Reading, start, begun, with_input, with_output, with_instr, after_form, after_target, after_cells, after_input, after_output, after_cycles, after_outputs, after_inputs, after_end, after_instrs, after_in, after, is_ended, line_read, finished, read_from, any_size, draft_of}
-use Rattle.pim_file.proofs.LineLemmas.{some_is, mapped, target_is, counted_is, port_line, port_is}
+use Rattle.pim_file.specs.Reading.{Reading, start, begun, with_input, with_output, with_instr, after_form, after_target, after_cells, after_input, after_output, after_cycles, after_outputs, after_inputs, after_end, after_in, after, is_ended, line_read}
+use Rattle.pim_file.specs.ProgramFile.{read_from, any_size, draft_of}
+use Rattle.pim_file.proofs.LineLemmas.{mapped, or_is, target_is, counted_is, port_is}
 use Rattle.pim_file.proofs.InstrLemmas.{instr_is}
 
 -- one more port, and one more instruction, at the end of a text
@@ -182,12 +183,6 @@ instrs_stand read line false left draft next z h e =
     let some : left ≡ 0 → ⊥ = eqb-false left 0 z in
     instr_stands read line left draft next (omega arith) h e
 
--- the first of two options, or the second
-
-or_is : {A : Type 0} (a b : Option A) (y : A) → option_or a b ≡ Some y → (a ≡ Some y) ⊎ (b ≡ Some y)
-or_is None b y e = inr e
-or_is (Some x) b y e = inl e
-
 outputs_stand : (read line : List ℕ) (draft : Option ProgramView) (next : Reading) → ReadSo section.Outputs draft read → after_outputs draft line ≡ Some next → Stands next (longer read line)
 outputs_stand read line draft next h e =
     elim (or_is (after_output draft line) (after_cycles draft line) next e) [
@@ -270,7 +265,7 @@ judged_line true over o fault other next h e = (refl, or_fault o fault next e)
 judged_line false true o fault other next h e = let some = or_fault o fault next e in let none = h refl in absurd cc
 judged_line false false o fault other next h e = absurd cc
 
-nothing_follows : (s : Section) (draft : Option ProgramView) (line : List ℕ) → is_ended s ≡ true → after_in any_size s draft line ≡ None
+pub nothing_follows : (s : Section) (draft : Option ProgramView) (line : List ℕ) → is_ended s ≡ true → after_in any_size s draft line ≡ None
 nothing_follows section.Form draft line e = absurd cc
 nothing_follows section.Target draft line e = absurd cc
 nothing_follows (section.Cells target) draft line e = absurd cc

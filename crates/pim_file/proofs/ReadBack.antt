@@ -1,12 +1,11 @@
 -- The text of a draft is read as that draft.
-use Rattle.std.proofs.Common.{◌≡◌, ℕ, zero, suc, ◌+◌, ◌-◌, ◌^◌, ◌<◌, ◌≤◌, inl, inr, take, Bool, true, false, cond, not, eqb, List, [], ◌∷◌, ◌++◌, length, Option, Some, None, Result, Ok, Err, codes, refl, ap, sym, ◌∙◌, subst, append_assoc, arith}
+use Rattle.std.proofs.Common.{◌≡◌, ℕ, zero, suc, ◌+◌, ◌-◌, ◌^◌, ◌<◌, ◌≤◌, inl, inr, take, Bool, true, false, not, eqb, List, [], ◌∷◌, ◌++◌, length, Some, None, Result, Ok, Err, codes, refl, ap, sym, ◌∙◌, subst, append_assoc, arith}
 use Rattle.std.specs.Fmt.{decimal}
 use Rattle.std.specs.List.{list_all, AllByRecursion}
-use Rattle.std.specs.Option.{option_or}
 use Rattle.std.proofs.lemmas.Bool.{and_parts, not-true, leb-true, ne_eqb, cases_lt}
 use Rattle.std.proofs.lemmas.List.{append-nil, length-append, take-append-le}
 use Rattle.std.proofs.Math.Seq.{take-append-add}
-use Rattle.pim_io.specs.Lines.{LineView, is_newline, last_line, lines_after, lines}
+use Rattle.pim_io.specs.Lines.{LineView, is_newline, last_line, lines_after}
 use Rattle.pim_isa.specs.declared.target.Target.{Target}
 use Rattle.pim_isa.specs.declared.target.Target.TheVariants.{Magic, Plim}
 use Rattle.pim_isa.specs.declared.port.Port.{Port}
@@ -19,12 +18,12 @@ use Rattle.pim_isa.specs.declared.instr.Instr.TheVariants.{Init, Nor, Rm3}
 use Rattle.pim_isa.specs.Programs.{ProgramView}
 use Rattle.pim_file.specs.declared.fault.FileFault.{FileFault}
 use Rattle.pim_file.specs.declared.fault.FileFault.TheVariants as faults
-use Rattle.pim_file.specs.declared.section.Section.{Section}
 use Rattle.pim_file.specs.declared.section.Section.TheVariants as section
 use Rattle.pim_file.specs.LineForms.{is_shown, is_label}
 use Rattle.pim_file.specs.Spelled.{AreSpelled, IsSpelledOperand, HasLine, HasPortLine, HasText}
 use Rattle.pim_file.specs.Text.{target_word, numbers_text, operand_text, nor_text, instr_text, counted_text, port_text, ports_text, instrs_text, head_text, text as text_of}
-use Rattle.pim_file.specs.Reading.{Reading, start, begun, after_outputs, after_inputs, after_instrs, after, is_ended, read_from, any_size, draft_of}
+use Rattle.pim_file.specs.Reading.{Reading, start, begun, after, is_ended}
+use Rattle.pim_file.specs.ProgramFile.{read_from, any_size, draft_of}
 use Rattle.pim_file.proofs.FieldLemmas.{lacks, lacks-append, lacks-decimal}
 use Rattle.pim_file.proofs.LabelLemmas.{is_label-from_IsLabel}
 use Rattle.pim_file.proofs.LineLemmas.{target_of-text, counted_of-text, port_line, port_of-text}
@@ -151,13 +150,13 @@ passes_both r s t a b f g = record {
   cut = λ number place k lt.
       elim (cases_lt k (length a)) [
         | inl early ↦
-          let within : k ≤ length a = omega arith in
-          ap (λ (u : List ℕ). read_at number place r u) (take-append-le k a b within) ∙ f.cut number place k early
+            let within : k ≤ length a = omega arith in
+            ap (λ (u : List ℕ). read_at number place r u) (take-append-le k a b within) ∙ f.cut number place k early
         | inr late ↦
-          let first = f.whole number place (take (k - length a) b) in
-          let inside : k - length a < length b = omega (arith, length-append a b) in
-          let inner : take k (a ++ b) ≡ a ++ take (k - length a) b = ap (λ (n : ℕ). take n (a ++ b)) (parts_of k (length a) late) ∙ take-append-add a b (k - length a) in
-          ap (λ (u : List ℕ). read_at number place r u) inner ∙ first.2 ∙ g.cut first.0 first.1 (k - length a) inside
+            let first = f.whole number place (take (k - length a) b) in
+            let inside : k - length a < length b = omega (arith, length-append a b) in
+            let inner : take k (a ++ b) ≡ a ++ take (k - length a) b = ap (λ (n : ℕ). take n (a ++ b)) (parts_of k (length a) late) ∙ take-append-add a b (k - length a) in
+            ap (λ (u : List ℕ). read_at number place r u) inner ∙ first.2 ∙ g.cut first.0 first.1 (k - length a) inside
       ];
 }
 

@@ -1,9 +1,7 @@
 -- Worked examples of reading, by computation.
-use Rattle.std.proofs.Common.{◌≡◌, ℕ, List, [], ◌∷◌, ◌++◌, Some, None, Ok, Err, codes, refl}
-use Rattle.std.specs.Fmt.{digits}
+use Rattle.std.proofs.Common.{true, false, ◌≡◌, ℕ, List, [], ◌∷◌, ◌++◌, Some, None, Ok, Err, codes, refl}
 use Rattle.pim_io.specs.Words.{number_of}
-use Rattle.pim_isa.specs.Programs.{ProgramView}
-use Rattle.pim_isa.specs.declared.target.Target.TheVariants.{Magic, Plim}
+use Rattle.pim_isa.specs.declared.target.Target.TheVariants.{Magic}
 use Rattle.pim_isa.specs.declared.instr.Ins.TheVariants as ins
 use Rattle.pim_isa.specs.declared.instr.Operand.TheVariants as operand
 use Rattle.pim_isa.specs.declared.instr.Instr.TheVariants.{Init, Nor, Rm3}
@@ -12,7 +10,8 @@ use Rattle.pim_file.specs.declared.fault.FileFault.TheVariants as faults
 use Rattle.pim_file.specs.Fields.{fields, plain_number}
 use Rattle.pim_file.specs.LineForms.{counted_of, port_of}
 use Rattle.pim_file.specs.InstrForms.{not_of, nor_of, rm3_of, instr_of}
-use Rattle.pim_file.specs.Reading.{draft_of, parse1_of}
+use Rattle.pim_file.specs.ProgramFile.{draft_of, parse1_of}
+use Rattle.pim_file.specs.Right.{right}
 
 zero_alone : plain_number (codes "0") ≡ Some 0
 unfolding plain_number number_of
@@ -127,3 +126,24 @@ too_large = refl
 line_before_size : parse1_of (large_head ++ line (codes "wrong")) ≡ Err (faults.Line 4)
 unfolding parse1_of draft_of plain_number number_of
 line_before_size = refl
+
+-- behind the number of cycles as many lines are instructions, and the next one is `end`
+instruction_left : right (codes "cycles 1" ∷ codes "cells 2" ∷ []) (codes "init 1") ≡ true
+unfolding instr_of plain_number number_of
+instruction_left = refl
+
+none_left : right (codes "init 1" ∷ codes "cycles 1" ∷ []) (codes "init 1") ≡ false
+unfolding instr_of plain_number number_of
+none_left = refl
+
+end_then : right (codes "init 1" ∷ codes "cycles 1" ∷ []) (codes "end") ≡ true
+unfolding instr_of plain_number number_of
+end_then = refl
+
+nothing_behind_end : right (codes "end" ∷ codes "cycles 0" ∷ []) (codes "end") ≡ false
+unfolding instr_of plain_number number_of
+nothing_behind_end = refl
+
+no_input_behind_outputs : right (codes "output 1 f" ∷ codes "cells 2" ∷ []) (codes "input 0 a") ≡ false
+unfolding instr_of plain_number number_of
+no_input_behind_outputs = refl

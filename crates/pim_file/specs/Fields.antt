@@ -1,6 +1,6 @@
 -- The parts of a line: its fields, which single spaces separate, and the numbers that they spell.
-use Rattle.std.specs.Prelude.{ℕ, ◌==◌, ◌&&◌, nat_lt, nat_le, Bool, if◌then◌else◌, List, [], ◌∷◌, length, drop, take, slice_index, Option, Some, None, option_map, option_and_then}
-use Rattle.std.specs.List.{slice_split, list_all}
+use Rattle.std.specs.Prelude.{ℕ, ◌==◌, ◌&&◌, nat_lt, Bool, if◌then◌else◌, List, [], ◌∷◌, length, drop, take, slice_index, Option, Some, None, option_map, option_and_then}
+use Rattle.std.specs.List.{slice_split}
 use Rattle.std.specs.Str.{bytes_eq}
 use Rattle.pim_io.specs.Words.{number_of}
 

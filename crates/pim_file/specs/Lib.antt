@@ -5,3 +5,5 @@ pub mod LineForms
 pub mod InstrForms
 pub mod Steps
 pub mod Reading
+pub mod ProgramFile
+pub mod Right

@@ -1,5 +1,5 @@
 -- What the line of a target, of a number or of a port says, each by itself.
-use Rattle.std.specs.Prelude.{ℕ, ◌+◌, ◌==◌, ◌||◌, ◌&&◌, not, nat_lt, nat_le, Bool, if◌then◌else◌, List, [], ◌∷◌, length, drop, take, codes, Option, Some, None, option_map, option_and_then}
+use Rattle.std.specs.Prelude.{ℕ, ◌+◌, ◌==◌, ◌&&◌, not, nat_lt, nat_le, Bool, if◌then◌else◌, List, length, drop, take, codes, Option, Some, None, option_and_then}
 use Rattle.std.specs.List.{list_all, position}
 use Rattle.std.specs.Str.{bytes_eq}
 use Rattle.pim_isa.specs.declared.target.Target.{Target}

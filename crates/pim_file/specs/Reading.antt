@@ -1,23 +1,19 @@
--- Which program a file is, or its first fault. The lines stand in this order: `pim 1`, the target, the cells, the inputs,
--- the outputs, the number of cycles, as many instructions, and `end`.
-use Rattle.std.specs.Prelude.{◌≡◌, ℕ, ◌-◌, ◌==◌, ◌||◌, nat_lt, nat_le, Bool, true, false, if◌then◌else◌, List, [], ◌∷◌, ◌++◌, codes, Option, Some, None, option_map, Result, Ok, Err}
+-- Reading the lines of a program file. They stand in this order: `pim 1`, the target, the cells, the inputs, the outputs,
+-- the number of cycles, as many instructions, and `end`.
+use Rattle.std.specs.Prelude.{ℕ, ◌-◌, ◌==◌, ◌||◌, Bool, true, false, if◌then◌else◌, List, [], ◌∷◌, ◌++◌, codes, Option, Some, None, option_map, Result, Err}
 use Rattle.std.specs.Option.{option_or, ok_or}
 use Rattle.std.specs.Str.{bytes_eq}
-use Rattle.pim_io.specs.Lines.{LineView, lines}
+use Rattle.pim_io.specs.Lines.{LineView}
 use Rattle.pim_isa.specs.declared.target.Target.{Target}
 use Rattle.pim_isa.specs.declared.port.Port.{Port}
 use Rattle.pim_isa.specs.declared.instr.Instr.{Instr}
-use Rattle.pim_isa.specs.declared.invalid.Invalid.{Invalid}
-use Rattle.pim_isa.specs.declared.draft.TheConstants.{MAX_CELLS}
 use Rattle.pim_isa.specs.Programs.{ProgramView}
-use Rattle.pim_isa.specs.Validity.{fault_of}
 use Rattle.pim_file.specs.declared.fault.FileFault.{FileFault}
 use Rattle.pim_file.specs.declared.fault.FileFault.TheVariants as faults
 use Rattle.pim_file.specs.declared.section.Section.{Section}
 use Rattle.pim_file.specs.declared.section.Section.TheVariants as section
 use Rattle.pim_file.specs.LineForms.{target_of, counted_of, port_of}
 use Rattle.pim_file.specs.InstrForms.{instr_of}
-use Rattle.pim_file.specs.Steps.{◌>>=◌}
 
 -- how far a file is read: which lines may come next, and the draft, which begins once the number of cells is told
 pub record Reading : Type 0 where
@@ -93,7 +89,7 @@ after_instrs left draft line =
     then after_end draft line
     else option_map (λ instr. record { section = section.Instrs (left - 1); draft = with_instr draft instr }) (instr_of line)
 
--- how far a file is read after one more line, if that line is right there; nothing is right behind `end`
+-- how far a file is read after one more line, if that line is right by what may come next; nothing is right behind `end`
 abbrev pub after_in : (ProgramView → Option ProgramView) → Section → Option ProgramView → List ℕ → Option Reading
 after_in keep section.Form draft line = after_form draft line
 after_in keep section.Target draft line = after_target draft line
@@ -103,6 +99,7 @@ after_in keep section.Outputs draft line = after_outputs draft line
 after_in keep (section.Instrs left) draft line = after_instrs left draft line
 after_in keep section.Ended draft line = None
 
+-- the same behind a reading
 abbrev pub after : (ProgramView → Option ProgramView) → Reading → List ℕ → Option Reading
 after keep r line = after_in keep r.section r.draft line
 
@@ -120,45 +117,3 @@ is_ended section.Ended = true
 abbrev pub line_read : (ProgramView → Option ProgramView) → Reading → LineView → Result Reading FileFault
 line_read keep r line =
     if line.ended || is_ended r.section then ok_or (after keep r line.text) (faults.Line line.number) else Err faults.Truncated
-
--- the draft at the end of the lines, where `end` was read
-abbrev pub finished : Reading → Result ProgramView FileFault
-finished r = if is_ended r.section then ok_or r.draft faults.TooLarge else Err faults.Truncated
-
--- the draft that these further lines lead to
-abbrev pub read_from : (ProgramView → Option ProgramView) → Reading → List LineView → Result ProgramView FileFault
-read_from keep r [] = finished r
-read_from keep r (line ∷ others) = line_read keep r line >>= λ next. read_from keep next others
-
--- a draft of as many cells as it says
-abbrev pub any_size : ProgramView → Option ProgramView
-any_size draft = Some draft
-
--- a draft of at most as many cells as a program may have
-abbrev pub within_limit : ProgramView → Option ProgramView
-within_limit draft = if nat_lt MAX_CELLS draft.cells then None else Some draft
-
--- the draft that a file is the text of
-unfoldable pub draft_of : List ℕ → Result ProgramView FileFault
-draft_of bytes = read_from any_size start (lines bytes)
-
--- a draft that has this fault, or none
-abbrev pub with_fault : ProgramView → Option Invalid → Result ProgramView FileFault
-with_fault draft None = Ok draft
-with_fault draft (Some invalid) = Err (faults.Invalid invalid)
-
--- the program of a draft that has no fault
-abbrev pub validated : ProgramView → Result ProgramView FileFault
-validated draft = with_fault draft (fault_of draft)
-
--- a draft that has no more cells than a program may have
-abbrev pub sized : ProgramView → Result ProgramView FileFault
-sized draft = if nat_lt MAX_CELLS draft.cells then Err faults.TooLarge else Ok draft
-
--- the program that a file is the text of
-unfoldable pub parse1_of : List ℕ → Result ProgramView FileFault
-parse1_of bytes = draft_of bytes >>= sized >>= validated
-
--- the same where a draft that is too large is dropped when it begins
-abbrev pub program_within_limit : List ℕ → Result ProgramView FileFault
-program_within_limit bytes = read_from within_limit start (lines bytes) >>= validated

@@ -1,5 +1,5 @@
 -- Which drafts have a text: those whose numbers are below 2 ^ 32, and whose labels are labels.
-use Rattle.std.specs.Prelude.{ℕ, ◌+◌, ◌^◌, ◌<◌, List, [], ◌∷◌, length}
+use Rattle.std.specs.Prelude.{ℕ, ◌+◌, ◌^◌, ◌<◌, List, ◌∷◌, length}
 use Rattle.std.specs.List.{AllByRecursion}
 use Rattle.pim_io.specs.Names.{IsLabel}
 use Rattle.pim_isa.specs.declared.port.Port.{Port}

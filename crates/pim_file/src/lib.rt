@@ -4,6 +4,7 @@
 mod fault;
 mod fields;
 mod instrs;
+mod kept;
 mod lines;
 mod parsing;
 mod printing;

@@ -1,10 +1,12 @@
-ghost use Rattle.std.specs.Prelude.{◌≡◌, ◌≤◌, ◌↔◌, length, Ok, IfOk};
+ghost use Rattle.std.specs.Prelude.{◌≡◌, ◌≤◌, ◌↔◌, [], length, Ok, IfOk};
 ghost use Rattle.pim_io.specs.Lines.{lines};
 ghost use Rattle.pim_isa.specs.Programs.{ProgramView};
 ghost use Rattle.pim_file.specs.Spelled.{HasText, HasFewParts};
 ghost use Rattle.pim_file.specs.Steps.{Gives};
 ghost use Rattle.pim_file.specs.Text.{text as text_of};
-ghost use Rattle.pim_file.specs.Reading.{start, read_from, within_limit, program_within_limit, draft_of, parse1_of};
+ghost use Rattle.pim_file.specs.Reading.{start};
+ghost use Rattle.pim_file.specs.Right.{first_wrong, is_cut_off, wrong_line, is_truncated};
+ghost use Rattle.pim_file.specs.ProgramFile.{read_from, within_limit, program_within_limit, draft_of, parse1_of};
 
 use crate::fault::FileFault;
 use crate::reader::Reader;
@@ -17,6 +19,10 @@ use std::alloc::Global;
 pub fn parse_text(alloc: Global, bytes: &[u8]) -> Result<Program, FileFault>
     requires { length bytes.now ≤ 536870912 }
     ensures exact { Gives (λ program. program) result (parse1_of bytes.now) }
+
+    // A line is judged by the last line before it, and by how many lines have followed the number of cycles.
+    ensures line { wrong_line (parse1_of bytes.now) ≡ first_wrong [] (lines bytes.now) }
+    ensures truncated { is_truncated (parse1_of bytes.now) ≡ is_cut_off [] (lines bytes.now) }
 
     // The draft is the one whose text the bytes are.
     ensures draft { (d : ProgramView) → (draft_of bytes.now ≡ Ok d) ↔ (HasText d × (bytes.now ≡ text_of d)) }
@@ -31,6 +37,9 @@ pub fn parse_text(alloc: Global, bytes: &[u8]) -> Result<Program, FileFault>
 pub fn parse(alloc: Global, bytes: &[u8]) -> Result<Program, FileFault>
     requires { length bytes.now ≤ 536870912 }
     ensures exact { Gives (λ program. program) result (parse1_of bytes.now) }
+
+    // No other bytes are read as this program.
+    ensures spelled { IfOk result (λ program. bytes.now ≡ text_of program) }
 {
     parse_text(alloc, bytes)
 }

@@ -1,6 +1,6 @@
 ghost use Rattle.std.specs.Prelude.{◌≡◌, ℕ, ◌<◌, [], ◌∷◌, ◌++◌, length, take, OnOk, IfOk, Ok, Err, codes, decimal};
 ghost use Rattle.pim_file.specs.declared.fault.FileFault.TheVariants as faults;
-ghost use Rattle.pim_file.specs.Reading.{parse1_of};
+ghost use Rattle.pim_file.specs.ProgramFile.{parse1_of};
 ghost use Rattle.pim_file.specs.Text.{head_text, instr_text, instrs_text, nor_text, operand_text, port_text, ports_text, target_word, text as text_of};
 
 use crate::Text;

@@ -4,15 +4,17 @@ ghost use Rattle.pim_io.specs.Lines.{line_of};
 ghost use Rattle.pim_io.specs.Names.{IsLabel};
 ghost use Rattle.pim_file.specs.LineForms.{port_view};
 ghost use Rattle.pim_file.specs.Steps.{Gives};
-ghost use Rattle.pim_file.specs.Reading.{start, begun, with_input, with_output, with_instr, after_form, after_target, after_cells, after_input, after_output, after_cycles, after_outputs, after_inputs, after_end, after_instrs, after_in, after, is_ended, line_read, finished, within_limit};
+ghost use Rattle.pim_file.specs.Reading.{start, begun, with_input, with_output, with_instr, after_form, after_target, after_cells, after_input, after_output, after_cycles, after_outputs, after_inputs, after_end, after_instrs, after_in, after, is_ended, line_read};
+ghost use Rattle.pim_file.specs.ProgramFile.{finished, within_limit};
 
 use crate::fault::FileFault;
 use crate::fields::is_text;
 use crate::instrs::instr;
-use crate::lines::{PortLine, counted, port, target};
+use crate::kept::Kept;
+use crate::lines::{counted, port, target};
 use crate::section::Section;
 use pim_io::{Line, NoMemory};
-use pim_isa::{Instr, MAX_CELLS, ProgramDraft, Target};
+use pim_isa::{ProgramDraft, Target};
 use std::alloc::Global;
 use std::marker::Model;
 
@@ -24,8 +26,8 @@ pub(crate) struct Reader {
     // Which lines may come next.
     section: Section,
 
-    // What was read: none before the number of cells is told, and none where that is above the limit.
-    draft: Option<ProgramDraft>,
+    // What was read.
+    draft: Kept,
 }
 
 impl Model for Reader {
@@ -44,7 +46,45 @@ impl Reader {
         Reader {
             alloc,
             section: Section::Form,
-            draft: None,
+            draft: Kept::new(),
+        }
+    }
+
+    /// The next line.
+    pub(crate) fn line(&mut self, line: Line) -> Result<(), FileFault>
+        ensures { Gives (λ _. self.new) result (line_read within_limit self.old (line_of line.entry)) }
+    {
+        if !line.ended && self.section != Section::Ended {
+            return Err(FileFault::Truncated);
+        }
+        if !self.accept(line.text)? {
+            return Err(FileFault::Line(line.number));
+        }
+        Ok(())
+    }
+
+    /// The draft, where all lines are read.
+    pub(crate) fn finish(self) -> Result<ProgramDraft, FileFault>
+        ensures { result ≡ finished self }
+    {
+        if self.section != Section::Ended {
+            return Err(FileFault::Truncated);
+        }
+        self.draft.into_draft()
+    }
+
+    /// The next line, without its newline; the answer is whether it is right there.
+    fn accept(&mut self, line: &[u8]) -> Result<bool, NoMemory>
+        ensures { IfOk result (λ right. after within_limit self.old line.now ≡ (if right then Some self.new else None)) }
+    {
+        match self.section {
+            Section::Form => Ok(self.form(line)),
+            Section::Target => Ok(self.target(line)),
+            Section::Cells(target) => Ok(self.cells(target, line)),
+            Section::Inputs => self.behind_input(line),
+            Section::Outputs => self.behind_output(line),
+            Section::Instrs(left) => self.body(left, line),
+            Section::Ended => Ok(false),
         }
     }
 
@@ -78,7 +118,7 @@ impl Reader {
             return false;
         };
         self.section = Section::Inputs;
-        self.draft = begun(self.alloc, target, cells);
+        self.draft = Kept::begun(self.alloc, target, cells);
         true
     }
 
@@ -91,7 +131,7 @@ impl Reader {
             return Ok(false);
         };
         self.section = Section::Inputs;
-        add_input(&mut self.draft, port)?;
+        self.draft.add_input(port)?;
         Ok(true)
     }
 
@@ -104,7 +144,7 @@ impl Reader {
             return Ok(false);
         };
         self.section = Section::Outputs;
-        add_output(&mut self.draft, port)?;
+        self.draft.add_output(port)?;
         Ok(true)
     }
 
@@ -155,91 +195,7 @@ impl Reader {
             return Ok(false);
         };
         self.section = Section::Instrs(left - 1);
-        add_instr(&mut self.draft, instr)?;
+        self.draft.add(instr)?;
         Ok(true)
-    }
-}
-
-impl Reader {
-    /// The next line, without its newline; the answer is whether it is right there.
-    fn accept(&mut self, line: &[u8]) -> Result<bool, NoMemory>
-        ensures { IfOk result (λ right. after within_limit self.old line.now ≡ (if right then Some self.new else None)) }
-    {
-        match self.section {
-            Section::Form => Ok(self.form(line)),
-            Section::Target => Ok(self.target(line)),
-            Section::Cells(target) => Ok(self.cells(target, line)),
-            Section::Inputs => self.behind_input(line),
-            Section::Outputs => self.behind_output(line),
-            Section::Instrs(left) => self.body(left, line),
-            Section::Ended => Ok(false),
-        }
-    }
-
-    /// The next line.
-    pub(crate) fn line(&mut self, line: Line) -> Result<(), FileFault>
-        ensures { Gives (λ _. self.new) result (line_read within_limit self.old (line_of line.entry)) }
-    {
-        if !line.ended && self.section != Section::Ended {
-            return Err(FileFault::Truncated);
-        }
-        if !self.accept(line.text)? {
-            return Err(FileFault::Line(line.number));
-        }
-        Ok(())
-    }
-
-    /// The draft, where all lines are read.
-    pub(crate) fn finish(self) -> Result<ProgramDraft, FileFault>
-        ensures { result ≡ finished self }
-    {
-        if self.section != Section::Ended {
-            return Err(FileFault::Truncated);
-        }
-        self.draft.ok_or(FileFault::TooLarge)
-    }
-}
-
-/// A draft without ports and instructions, if it has not too many cells.
-fn begun(alloc: Global, target: Target, cells: u32) -> Option<ProgramDraft>
-    ensures { result ≡ within_limit (begun target cells) }
-{
-    if cells > MAX_CELLS {
-        return None;
-    }
-    Some(ProgramDraft::new(alloc, target, cells))
-}
-
-/// Adds an input to a draft that is kept.
-#[tactic(auto, using(crate::proofs::LabelLemmas::label_same))]
-fn add_input(draft: &mut Option<ProgramDraft>, port: PortLine) -> Result<(), NoMemory>
-    requires { IsLabel port.label.now }
-    ensures { OnOk result (draft.new ≡ with_input draft.old (port_view port.entry)) }
-{
-    match draft {
-        Some(draft) => draft.add_input(port.cell, port.label),
-        None => Ok(()),
-    }
-}
-
-/// Adds an output to a draft that is kept.
-#[tactic(auto, using(crate::proofs::LabelLemmas::label_same))]
-fn add_output(draft: &mut Option<ProgramDraft>, port: PortLine) -> Result<(), NoMemory>
-    requires { IsLabel port.label.now }
-    ensures { OnOk result (draft.new ≡ with_output draft.old (port_view port.entry)) }
-{
-    match draft {
-        Some(draft) => draft.add_output(port.cell, port.label),
-        None => Ok(()),
-    }
-}
-
-/// Adds an instruction to a draft that is kept.
-fn add_instr(draft: &mut Option<ProgramDraft>, instr: Instr) -> Result<(), NoMemory>
-    ensures { OnOk result (draft.new ≡ with_instr draft.old instr) }
-{
-    match draft {
-        Some(draft) => draft.add(instr),
-        None => Ok(()),
     }
 }

@@ -41,17 +41,17 @@ row_stored b t v new small stored r row =
     ext_get_or false (row_of after r) (set (row_of b r) t (v r))
     (length-row_of after r ∙ sym (length-row_of b r) ∙ sym (length-set (row_of b r) t (v r)))
     (λ c within.
-      let below : c < b.cells = omega (arith, length-row_of after r) in
-      bit-row_of after r c below ∙
-      elim (cases_eq c t) as (λ _. lane (column_of after c) r ≡ bit (set (row_of b r) t (v r)) c) [
-        | inl same ↦
-            ap (λ (n : ℕ). lane (column_of after n) r) same ∙ stored.target r row
-            ∙ sym (ap (λ (n : ℕ). bit (set (row_of b r) t (v r)) n) same
-            ∙ get_or-set_same (row_of b r) t (v r) false (omega (arith, length-row_of b r)))
-        | inr apart ↦
-            ap (λ (ws : List ℕ). lane ws r) (stored.others c apart)
-            ∙ sym (get_or-set_other (row_of b r) t c (v r) false apart ∙ bit-row_of b r c below)
-      ])
+    let below : c < b.cells = omega (arith, length-row_of after r) in
+    bit-row_of after r c below ∙
+    elim (cases_eq c t) as (λ _. lane (column_of after c) r ≡ bit (set (row_of b r) t (v r)) c) [
+      | inl same ↦
+          ap (λ (n : ℕ). lane (column_of after n) r) same ∙ stored.target r row
+          ∙ sym (ap (λ (n : ℕ). bit (set (row_of b r) t (v r)) n) same
+          ∙ get_or-set_same (row_of b r) t (v r) false (omega (arith, length-row_of b r)))
+      | inr apart ↦
+          ap (λ (ws : List ℕ). lane ws r) (stored.others c apart)
+          ∙ sym (get_or-set_other (row_of b r) t c (v r) false apart ∙ bit-row_of b r c below)
+    ])
 
 -- the same of the fields of a bank: `view` is what they were, the column was written in `old`, and the list is `items` now
 pub row_lanes : (v : ℕ → List ℕ → ℕ → Bool) (view b : BankView) (t : ℕ) (old new items : List ℕ) →
@@ -59,12 +59,12 @@ pub row_lanes : (v : ℕ → List ℕ → ℕ → Bool) (view b : BankView) (t :
     (r : ℕ) → IsRow b r → row_of (record view { buffer = items }) r ≡ set (row_of b r) t (v b.words b.buffer r)
 row_lanes v view b t old new items is items_are old_is =
     let P : BankView → Type 0 = λ b. t < b.cells → Stored view.words t (v view.words old) old new →
-        (r : ℕ) → IsRow b r → row_of (record view { buffer = items }) r ≡ set (row_of b r) t (v b.words b.buffer r) in
+    (r : ℕ) → IsRow b r → row_of (record view { buffer = items }) r ≡ set (row_of b r) t (v b.words b.buffer r) in
     subst P is (λ small stored r row.
-      let from : Stored view.words t (v view.words view.buffer) view.buffer new =
-        let Q : List ℕ → Type 0 = λ o. Stored view.words t (v view.words o) o new in subst Q old_is stored in
-      ap (λ (l : List ℕ). row_of (record view { buffer = l }) r) items_are
-      ∙ row_stored view t (v view.words view.buffer) new small from r row)
+    let from : Stored view.words t (v view.words view.buffer) view.buffer new =
+    let Q : List ℕ → Type 0 = λ o. Stored view.words t (v view.words o) o new in subst Q old_is stored in
+    ap (λ (l : List ℕ). row_of (record view { buffer = l }) r) items_are
+    ∙ row_stored view t (v view.words view.buffer) new small from r row)
 
 -- the same where the lanes of columns of cells made the new ones
 pub row_by : (g : Bool → Bool → Bool → Bool) (view b : BankView) (t x y : ℕ) (old new items : List ℕ) →
@@ -118,8 +118,8 @@ row_all : (b : BankView) (r : ℕ) (x : Bool) → ((c : ℕ) → c < b.cells →
 row_all b r x lanes =
     ext_get_or false (row_of b r) (replicate b.cells x) (length-row_of b r ∙ sym (length-replicate b.cells x))
     (λ c within.
-      let small : c < b.cells = omega (arith, length-row_of b r) in
-      bit-row_of b r c small ∙ lanes c small ∙ sym (get_or-replicate b.cells c x false small))
+    let small : c < b.cells = omega (arith, length-row_of b r) in
+    bit-row_of b r c small ∙ lanes c small ∙ sym (get_or-replicate b.cells c x false small))
 
 -- a list of zeros whose last column was set to ones is a bank, and its rows are zero
 pub new_bank : (cells w : ℕ) (old new items : List ℕ) → cells ≤ MAX_CELLS → w ≤ 64 → items ≡ new → old ≡ replicate ((cells + 2) * w) 0 →
@@ -142,9 +142,9 @@ pub new_rows : (cells w : ℕ) (old new items : List ℕ) → items ≡ new → 
 new_rows cells w old new items items_are old_is stored r =
     row_all (record { cells = cells; words = w; buffer = items }) r false
     (λ c small.
-      ap (λ (l : List ℕ). lane (column_in w l c) r) items_are
-      ∙ ap (λ (ws : List ℕ). lane ws r) (stored.others c (λ e. omega arith) ∙ ap (λ (l : List ℕ). column_in w l c) old_is ∙ column_in-replicate w (cells + 2) c 0 (omega arith))
-      ∙ lane-zeros w r)
+    ap (λ (l : List ℕ). lane (column_in w l c) r) items_are
+    ∙ ap (λ (ws : List ℕ). lane ws r) (stored.others c (λ e. omega arith) ∙ ap (λ (l : List ℕ). column_in w l c) old_is ∙ column_in-replicate w (cells + 2) c 0 (omega arith))
+    ∙ lane-zeros w r)
 
 -- ---- a bank that was filled
 pub filled_rows : (view b : BankView) (new items : List ℕ) (word : ℕ) (x : Bool) → view ≡ b → items ≡ new →
@@ -154,7 +154,7 @@ pub filled_rows : (view b : BankView) (new items : List ℕ) (word : ℕ) (x : B
 filled_rows view b new items word x is items_are lanes columns =
     let P : BankView → Type 0 = λ b. (r : ℕ) → IsRow b r → row_of (record view { buffer = items }) r ≡ replicate b.cells x in
     subst P is (λ r row. row_all (record view { buffer = items }) r x
-      (λ c small. ap (λ (l : List ℕ). lane (column_in view.words l c) r) items_are ∙ ap (λ (ws : List ℕ). lane ws r) (columns c small) ∙ lanes r row))
+    (λ c small. ap (λ (l : List ℕ). lane (column_in view.words l c) r) items_are ∙ ap (λ (ws : List ℕ). lane ws r) (columns c small) ∙ lanes r row))
 
 pub fill_lanes : (fill : Fill) (w r : ℕ) → r < 64 * w → lane (replicate w (fill_word fill)) r ≡ fill_bit fill
 fill_lanes Zeros w r row = lane-zeros w r

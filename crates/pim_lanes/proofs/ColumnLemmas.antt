@@ -94,9 +94,9 @@ stored_by g w t a b old xs rest ys ys' zs first second was rest_was front long s
     let b_was : second ≡ column_in w old b = second_is ∙ col b in
     stored_middle w t _ old (xs ++ (ys' ++ zs)) xs ys ys' zs whole refl front long (same ∙ long)
     (λ r small. lanes r
-      ∙ ap (λ (x : List ℕ). g (lane x r) (lane first r) (lane second r)) t_was
-      ∙ ap (λ (x : List ℕ). g (lane (column_in w old t) r) (lane x r) (lane second r)) a_was
-      ∙ ap (λ (x : List ℕ). g (lane (column_in w old t) r) (lane (column_in w old a) r) (lane x r)) b_was)
+    ∙ ap (λ (x : List ℕ). g (lane x r) (lane first r) (lane second r)) t_was
+    ∙ ap (λ (x : List ℕ). g (lane (column_in w old t) r) (lane x r) (lane second r)) a_was
+    ∙ ap (λ (x : List ℕ). g (lane (column_in w old t) r) (lane (column_in w old a) r) (lane x r)) b_was)
 
 -- the same where the middle column was set to something new
 pub stored_here : (w t start : ℕ) (v : ℕ → Bool) (old ys' : List ℕ) → start ≡ t * w → t * w + w ≤ length old →

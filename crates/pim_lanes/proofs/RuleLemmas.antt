@@ -91,9 +91,9 @@ nor1_chunk at t a within same =
     ruled_chunk nor1_word at t a a _ within
     (length-zip2 bit_and us (map complement xs) (omega arith) ∙ us_len)
     (λ j small.
-      get_or-zip2 bit_and us (map complement xs) j 0 0 0 (omega arith) (omega arith)
-      ∙ ap (λ (n : ℕ). bit_and (get_or us j 0) n) (get_or-map complement xs j 0 0 (omega arith))
-      ∙ rw (chunk_at at t j small, chunk_at at a j small) refl)
+    get_or-zip2 bit_and us (map complement xs) j 0 0 0 (omega arith) (omega arith)
+    ∙ ap (λ (n : ℕ). bit_and (get_or us j 0) n) (get_or-map complement xs j 0 0 (omega arith))
+    ∙ rw (chunk_at at t j small, chunk_at at a j small) refl)
 
 -- the vector that a NOR of two operands makes
 pub nor2_chunk : (at : ℕ) (t a b : List ℕ) → at + 4 ≤ length t → length a ≡ length t → length b ≡ length t →
@@ -111,16 +111,16 @@ nor2_chunk at t a b within same_a same_b =
     ruled_chunk nor2_word at t a b _ within
     (length-zip2 bit_and us (map complement one) (omega arith) ∙ us_len)
     (λ j small.
-      get_or-zip2 bit_and us (map complement one) j 0 0 0 (omega arith) (omega arith)
-      ∙ ap (λ (n : ℕ). bit_and (get_or us j 0) n) (get_or-map complement one j 0 0 (omega arith))
-      ∙ ap (λ (n : ℕ). bit_and (get_or us j 0) (complement n)) (get_or-zip2 bit_or xs ys j 0 0 0 (omega arith) (omega arith))
-      ∙ rw (chunk_at at t j small, chunk_at at a j small, chunk_at at b j small) refl)
+    get_or-zip2 bit_and us (map complement one) j 0 0 0 (omega arith) (omega arith)
+    ∙ ap (λ (n : ℕ). bit_and (get_or us j 0) n) (get_or-map complement one j 0 0 (omega arith))
+    ∙ ap (λ (n : ℕ). bit_and (get_or us j 0) (complement n)) (get_or-zip2 bit_or xs ys j 0 0 0 (omega arith) (omega arith))
+    ∙ rw (chunk_at at t j small, chunk_at at a j small, chunk_at at b j small) refl)
 
 -- the vector that an RM3 makes
 pub rm3_chunk : (at : ℕ) (z p q : List ℕ) → at + 4 ≤ length z → length p ≡ length z → length q ≡ length z →
     Ruled rm3_word at (at + 4) z p q (put_chunk at z
-      (zip2 bit_or (zip2 bit_and (chunk at 4 p) (map complement (chunk at 4 q)))
-      (zip2 bit_and (chunk at 4 z) (zip2 bit_or (chunk at 4 p) (map complement (chunk at 4 q))))))
+    (zip2 bit_or (zip2 bit_and (chunk at 4 p) (map complement (chunk at 4 q)))
+    (zip2 bit_and (chunk at 4 z) (zip2 bit_or (chunk at 4 p) (map complement (chunk at 4 q))))))
 rm3_chunk at z p q within same_p same_q =
     let us : List ℕ = chunk at 4 z in
     let xs : List ℕ = chunk at 4 p in
@@ -138,13 +138,13 @@ rm3_chunk at z p q within same_p same_q =
     ruled_chunk rm3_word at z p q _ within
     (length-zip2 bit_or both kept (omega arith) ∙ both_len)
     (λ j small.
-      let turned : get_or ys j 0 ≡ complement (get_or q (at + j) 0) =
-        get_or-map complement (chunk at 4 q) j 0 0 (omega arith) ∙ ap complement (chunk_at at q j small) in
-      get_or-zip2 bit_or both kept j 0 0 0 (omega arith) (omega arith)
-      ∙ ap (λ (n : ℕ). bit_or n (get_or kept j 0)) (get_or-zip2 bit_and xs ys j 0 0 0 (omega arith) (omega arith))
-      ∙ ap (λ (n : ℕ). bit_or (bit_and (get_or xs j 0) (get_or ys j 0)) n) (get_or-zip2 bit_and us some j 0 0 0 (omega arith) (omega arith))
-      ∙ ap (λ (n : ℕ). bit_or (bit_and (get_or xs j 0) (get_or ys j 0)) (bit_and (get_or us j 0) n)) (get_or-zip2 bit_or xs ys j 0 0 0 (omega arith) (omega arith))
-      ∙ rw (turned, chunk_at at z j small, chunk_at at p j small) refl)
+    let turned : get_or ys j 0 ≡ complement (get_or q (at + j) 0) =
+    get_or-map complement (chunk at 4 q) j 0 0 (omega arith) ∙ ap complement (chunk_at at q j small) in
+    get_or-zip2 bit_or both kept j 0 0 0 (omega arith) (omega arith)
+    ∙ ap (λ (n : ℕ). bit_or n (get_or kept j 0)) (get_or-zip2 bit_and xs ys j 0 0 0 (omega arith) (omega arith))
+    ∙ ap (λ (n : ℕ). bit_or (bit_and (get_or xs j 0) (get_or ys j 0)) n) (get_or-zip2 bit_and us some j 0 0 0 (omega arith) (omega arith))
+    ∙ ap (λ (n : ℕ). bit_or (bit_and (get_or xs j 0) (get_or ys j 0)) (bit_and (get_or us j 0) n)) (get_or-zip2 bit_or xs ys j 0 0 0 (omega arith) (omega arith))
+    ∙ rw (turned, chunk_at at z j small, chunk_at at p j small) refl)
 
 -- ---- from words to lanes
 -- where f makes of the bits of three words what g says, the lanes of the words that it made are what g says
@@ -163,7 +163,7 @@ lanes_ruled f g bits none t a b new same_a same_b fit_a fit_b done r = by_cases 
         ∙ bits (get_or t (r / 64) 0) (get_or a (r / 64) 0) (get_or b (r / 64) 0) (r % 64) (fit_a (r / 64)).fits (fit_b (r / 64)).fits (omega arith)
     by_cases (inr past) =
         let no : (xs : List ℕ) → length xs ≡ length t → is_set (get_or xs (r / 64) 0) (r % 64) ≡ false = λ (xs : List ℕ) (same : length xs ≡ length t).
-          ap (λ (n : ℕ). is_set n (r % 64)) (get_or_past xs (r / 64) 0 (omega arith)) ∙ is_set-zero (r % 64) in
+        ap (λ (n : ℕ). is_set n (r % 64)) (get_or_past xs (r / 64) 0 (omega arith)) ∙ is_set-zero (r % 64) in
         ap (λ (n : ℕ). is_set n (r % 64)) (done.above (r / 64) past)
         ∙ no t refl ∙ sym none
         ∙ rw (no t refl, no a same_a, no b same_b) refl

@@ -1,5 +1,5 @@
 -- Columns of words that stand one after another in one list.
-use Rattle.std.specs.Prelude.{◌≡◌, ◌≢◌, ℕ, ◌*◌, ◌<◌, Bool, List, length}
+use Rattle.std.specs.Prelude.{◌≡◌, ◌≢◌, ℕ, ◌*◌, ◌<◌, Bool, List, length, take, drop}
 use Rattle.pim_io.specs.Lanes.{lane, column_in}
 
 -- lane r of column t is v r now, and all other columns are as they were

@@ -6,7 +6,7 @@ ghost use Rattle.pim_lanes.specs.Banks.{column_of, row_of, IsRow, IsBank, SameFr
 
 use crate::columns;
 use pim_io::NoMemory;
-use pim_isa::{Fill, Instr, Ins, MAX_CELLS, Operand, Program};
+use pim_isa::{Fill, Ins, Instr, MAX_CELLS, Operand, Program};
 use std::alloc::Global;
 use std::marker::Model;
 
@@ -21,7 +21,7 @@ pub struct Bank {
 
 impl Model for Bank {
     ghost use Rattle.pim_io.specs.Lanes.{lane};
-ghost use Rattle.pim_lanes.specs.Banks.{BankView, IsBank};
+    ghost use Rattle.pim_lanes.specs.Banks.{BankView, IsBank};
 
     ghost Value = { BankView };
 

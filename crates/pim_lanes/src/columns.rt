@@ -58,7 +58,7 @@ pub(crate) fn nor2_column(buffer: &mut [u64], words: usize, t: usize, a: usize, 
     requires b_apart { b ≢ t }
     ensures { Stored words t
         (λ r. lane (column_in words buffer.old t) r
-            && not (lane (column_in words buffer.old a) r || lane (column_in words buffer.old b) r))
+        && not (lane (column_in words buffer.old a) r || lane (column_in words buffer.old b) r))
         buffer.old buffer.new }
 {
     let (below, rest) = buffer.split_at_mut(t * words);
@@ -77,7 +77,7 @@ pub(crate) fn rm3_column(buffer: &mut [u64], words: usize, z: usize, p: usize, q
     requires q_apart { q ≢ z }
     ensures { Stored words z
         (λ r. majority (lane (column_in words buffer.old p) r) (not (lane (column_in words buffer.old q) r))
-            (lane (column_in words buffer.old z) r))
+        (lane (column_in words buffer.old z) r))
         buffer.old buffer.new }
 {
     let (below, rest) = buffer.split_at_mut(z * words);

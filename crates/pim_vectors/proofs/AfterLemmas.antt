@@ -22,8 +22,8 @@ unfolding next_of
 next_of-held v h bytes =
     let piece : List ℕ = within_limit v bytes in
     ap (λ (e : Result (Option (List ℕ)) LinesFault).
-      cond (ltb (line_len piece) (length piece)) (handed v (without_return (take (line_len piece) piece)))
-      (cond (ltb (length piece) (length bytes) && ltb (length piece) (v.longest + 2)) (Err faults.TooLong) e))
+    cond (ltb (line_len piece) (length piece)) (handed v (without_return (take (line_len piece) piece)))
+    (cond (ltb (length piece) (length bytes) && ltb (length piece) (v.longest + 2)) (Err faults.TooLong) e))
     (ended-held v h piece)
 
 next_of-took : (old v : LinesView) (a b : Option (List ℕ)) (bytes : List ℕ) → Took old a b v → next_of v bytes ≡ next_of old bytes
@@ -87,14 +87,14 @@ after_line old v new text a b s took next longest given place held text_is =
           (told_both a b _ _ took.bytes next.whole);
       place = told_map a b (λ x y. v.held ++ y ≡ old.held ++ x) (λ x y. new.place + length (new.held ++ y) ≡ old.place + length (old.held ++ x))
           (λ x y h.
-            omega (arith, place, took.place, within, ap length held, length-drop s.whole v.held, length-append new.held y, length-append v.held y, ap length h))
+          omega (arith, place, took.place, within, ap length held, length-drop s.whole v.held, length-append new.held y, length-append v.held y, ap length h))
           took.bytes;
       cut = told_map a b (λ x y. (v.held ++ y ≡ old.held ++ x) × (lines (v.held ++ y) ≡ take s.text v.held ∷ lines (drop s.whole v.held ++ y)))
           (λ x y. lines (old.held ++ x) ≡ (text.now ∷ []) ++ lines (new.held ++ y))
           (λ x y both.
-            ap lines (sym both.0) ∙ both.1
-            ∙ ap (λ (t : List ℕ). t ∷ lines (drop s.whole v.held ++ y)) (sym text_is)
-            ∙ ap (λ (l : List ℕ). text.now ∷ lines (l ++ y)) (sym held))
+          ap lines (sym both.0) ∙ both.1
+          ∙ ap (λ (t : List ℕ). t ∷ lines (drop s.whole v.held ++ y)) (sym text_is)
+          ∙ ap (λ (l : List ℕ). text.now ∷ lines (l ++ y)) (sym held))
           (told_both a b _ _ took.bytes next.cut);
       waits = λ h. cc;
     }

@@ -97,21 +97,26 @@ long_answer v n m count none long = by_cases (cases_lt (line_len piece) (length 
   where
     room : ℕ
     room = MAX_BYTES - v.place
+
     piece : List ℕ
     piece = take room (v.held ++ n)
+
     enough : m ≤ length piece
     enough = omega (arith, count, length-piece v.held n room)
+
     least : m ≤ line_len piece
     least = line_len-least piece m enough (none-piece v.held n room m (omega (arith, count)) none)
+
     held : length (take m v.held) ≡ m
     held = length-take-le m v.held (omega (arith, count, length-take room v.held))
+
     by_cases : (line_len piece < length piece) ⊎ (length piece ≤ line_len piece) → judged v piece (length (v.held ++ n)) ≡ handed v (take m v.held)
     by_cases (inl newline) =
         let stands : length (take (line_len piece) piece) ≡ line_len piece = length-take-le (line_len piece) piece (omega arith) in
         rw (lt-ltb (line_len piece) (length piece) newline)
         (handed-long v (without_return (take (line_len piece) piece)) (take m v.held)
-          (omega (arith, least, long, stands, length-without_return (take (line_len piece) piece)))
-          (omega (arith, long, held)))
+        (omega (arith, least, long, stands, length-without_return (take (line_len piece) piece)))
+        (omega (arith, long, held)))
     by_cases (inr none_there) =
         rw (le-ltb (line_len piece) (length piece) none_there, le-ltb (length piece) (v.longest + 2) (omega (arith, enough, long)), and_false (ltb (length piece) (length (v.held ++ n))))
         (ended-some v piece (omega (arith, enough, long)) ∙ handed-long v piece (take m v.held) (omega (arith, enough, long)) (omega (arith, long, held)))
@@ -131,7 +136,7 @@ over_answer v n over =
     let same : take room (v.held ++ n) ≡ take room v.held = take-append-le room v.held n (omega (arith, over.over)) in
     let count : length (take room v.held) ≡ room = length-take-le room v.held (omega (arith, over.over)) in
     let none : line_len (take room v.held) ≡ length (take room v.held) =
-      line_len-none (take room v.held) (λ k small. ap is_newline (get_or-take room v.held k 0 (omega arith)) ∙ over.none k (omega arith)) in
+    line_len-none (take room v.held) (λ k small. ap is_newline (get_or-take room v.held k 0 (omega arith)) ∙ over.none k (omega arith)) in
     let more : room < length (v.held ++ n) = omega (arith, over.over, length-append v.held n) in
     rw (same, none, count, le-ltb room room (omega arith), lt-ltb room (length (v.held ++ n)) more, lt-ltb room (v.longest + 2) over.short) refl
 
@@ -149,8 +154,8 @@ lines-cut : (held n : List ℕ) (k : ℕ) → k < length held → NoNewline held
 lines-cut held n k within none here =
     let count : length (take k held) ≡ k = length-take-le k held (omega arith) in
     let split : held ++ n ≡ take k held ++ (get_or held k 0 ∷ (drop (k + 1) held ++ n)) =
-      ap (λ (l : List ℕ). l ++ n) (sym (take-append-drop k held) ∙ ap (λ (l : List ℕ). take k held ++ l) (drop_more held k 0 within))
-      ∙ append_assoc (take k held) (get_or held k 0 ∷ drop (k + 1) held) n in
+    ap (λ (l : List ℕ). l ++ n) (sym (take-append-drop k held) ∙ ap (λ (l : List ℕ). take k held ++ l) (drop_more held k 0 within))
+    ∙ append_assoc (take k held) (get_or held k 0 ∷ drop (k + 1) held) n in
     ap lines split
     ∙ lines_after-append [] (take k held) (get_or held k 0 ∷ (drop (k + 1) held ++ n)) (λ j small. ap is_newline (get_or-take k held j 0 (omega arith)) ∙ none j (omega arith))
     ∙ rw here refl
@@ -188,10 +193,10 @@ found_answer v a b P (found.Rest m) base is some =
           let count : m ≡ length v.held = is.0 ∙ ap length all in
           told_map a b (λ x y. y ≡ []) Q
           (λ x y none.
-            ap (λ (l : List ℕ). next_of v (v.held ++ l)) none
-            ∙ end_answer v end.1 (λ k small. is.1 k (omega arith))
-            ∙ ended-some v v.held (omega arith)
-            ∙ ap (handed v) (sym (take_all m v.held (omega arith))))
+          ap (λ (l : List ℕ). next_of v (v.held ++ l)) none
+          ∙ end_answer v end.1 (λ k small. is.1 k (omega arith))
+          ∙ ended-some v v.held (omega arith)
+          ∙ ap (handed v) (sym (take_all m v.held (omega arith))))
           end.0
     ]
 
@@ -207,8 +212,8 @@ found_end v a b (found.Rest m) is none =
           told_map a b (λ x y. y ≡ []) (λ x y. (next_of v (v.held ++ y) ≡ Ok None) × (v.held ++ y ≡ []))
           (λ x y spent. (
             ap (λ (l : List ℕ). next_of v (v.held ++ l)) spent
-              ∙ end_answer v end.1 (λ k small. is.1 k (omega (arith, ap length empty)))
-              ∙ ap (ended v) empty,
+                ∙ end_answer v end.1 (λ k small. is.1 k (omega (arith, ap length empty)))
+                ∙ ap (ended v) empty,
             ap (λ (l : List ℕ). v.held ++ l) spent ∙ append-nil v.held ∙ empty,
           ))
           end.0
@@ -229,14 +234,14 @@ found_next v a b P (found.Line k) s base is some whole short text more fits ok =
           (λ x y h. h ∙ ap (handed v) (sym text) ∙ ok) (found_answer v a b P (found.Line k) base is (omega arith));
       whole = told_map a b P (λ x y. drop s.whole v.held ++ y ≡ drop (line_len (v.held ++ y) + 1) (v.held ++ y))
           (λ x y h.
-            ap (λ (n : ℕ). drop n v.held ++ y) whole
-            ∙ sym (ap (λ (n : ℕ). drop (n + 1) (v.held ++ y)) (line_len-append v.held y k within is.2 is.1) ∙ drop-append-le (k + 1) v.held y (omega arith)))
+          ap (λ (n : ℕ). drop n v.held ++ y) whole
+          ∙ sym (ap (λ (n : ℕ). drop (n + 1) (v.held ++ y)) (line_len-append v.held y k within is.2 is.1) ∙ drop-append-le (k + 1) v.held y (omega arith)))
           base;
       cut = told_map a b P (λ x y. lines (v.held ++ y) ≡ take s.text v.held ∷ lines (drop s.whole v.held ++ y))
           (λ x y h.
-            lines-cut v.held y k within is.2 is.1
-            ∙ ap (λ (t : List ℕ). t ∷ lines (drop (k + 1) v.held ++ y)) (sym text)
-            ∙ ap (λ (n : ℕ). take s.text v.held ∷ lines (drop n v.held ++ y)) (sym whole))
+          lines-cut v.held y k within is.2 is.1
+          ∙ ap (λ (t : List ℕ). t ∷ lines (drop (k + 1) v.held ++ y)) (sym text)
+          ∙ ap (λ (n : ℕ). take s.text v.held ∷ lines (drop n v.held ++ y)) (sym whole))
           base;
     }
 found_next v a b P (found.Rest m) s base is some whole short text more fits ok =
@@ -260,16 +265,16 @@ found_next v a b P (found.Rest m) s base is some whole short text more fits ok =
                 (λ x y h. h ∙ ap (handed v) (sym text) ∙ ok) (found_answer v a b P (found.Rest m) base is (omega arith));
             whole = told_map a b (λ x y. y ≡ []) (λ x y. drop s.whole v.held ++ y ≡ drop (line_len (v.held ++ y) + 1) (v.held ++ y))
                 (λ x y spent.
-                  ap (λ (l : List ℕ). drop s.whole v.held ++ l) spent ∙ append-nil (drop s.whole v.held) ∙ gone
-                  ∙ sym (ap (λ (l : List ℕ). drop (line_len (v.held ++ l) + 1) (v.held ++ l)) spent
-                  ∙ ap (λ (l : List ℕ). drop (line_len l + 1) l) (append-nil v.held)
-                  ∙ drop_all (line_len v.held + 1) v.held (omega (arith, line_len-none v.held none))))
+                ap (λ (l : List ℕ). drop s.whole v.held ++ l) spent ∙ append-nil (drop s.whole v.held) ∙ gone
+                ∙ sym (ap (λ (l : List ℕ). drop (line_len (v.held ++ l) + 1) (v.held ++ l)) spent
+                ∙ ap (λ (l : List ℕ). drop (line_len l + 1) l) (append-nil v.held)
+                ∙ drop_all (line_len v.held + 1) v.held (omega (arith, line_len-none v.held none))))
                 end.0;
             cut = told_map a b (λ x y. y ≡ []) (λ x y. lines (v.held ++ y) ≡ take s.text v.held ∷ lines (drop s.whole v.held ++ y))
                 (λ x y spent.
-                  ap (λ (l : List ℕ). lines (v.held ++ l)) spent ∙ ap lines (append-nil v.held) ∙ lines-last v.held (omega arith) none
-                  ∙ sym (ap (λ (l : List ℕ). take s.text v.held ∷ lines (drop s.whole v.held ++ l)) spent
-                  ∙ ap (λ (l : List ℕ). take s.text v.held ∷ lines (l ++ [])) gone ∙ ap (λ (t : List ℕ). t ∷ []) held))
+                ap (λ (l : List ℕ). lines (v.held ++ l)) spent ∙ ap lines (append-nil v.held) ∙ lines-last v.held (omega arith) none
+                ∙ sym (ap (λ (l : List ℕ). take s.text v.held ∷ lines (drop s.whole v.held ++ l)) spent
+                ∙ ap (λ (l : List ℕ). take s.text v.held ∷ lines (l ++ [])) gone ∙ ap (λ (t : List ℕ). t ∷ []) held))
                 end.0;
           }
     ]

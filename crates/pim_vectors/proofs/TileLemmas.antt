@@ -68,15 +68,16 @@ lane_at-set w buffer k row word b row_small within bits c r small = by_cases (ca
   where
     at : ℕ
     at = k * w + row / 64
+
     by_cases : (c * w + r / 64 ≡ k * w + row / 64) ⊎ (c * w + r / 64 ≢ k * w + row / 64) →
         lane_at w (set buffer (k * w + row / 64) word) c r ≡ cond (eqb c k && eqb r row) b (lane_at w buffer c r)
     by_cases (inl same) =
         let both = same_column w c k (r / 64) (row / 64) (omega arith) (omega arith) same in
         let place : eqb (r % 64) (row % 64) ≡ eqb r row =
-          elim (cases_eq r row) [
-            | inl one ↦ ap (λ (n : ℕ). eqb (n % 64) (row % 64)) one ∙ eq-eqb (row % 64) (row % 64) refl ∙ sym (eq-eqb r row one)
-            | inr two ↦ ne_eqb (r % 64) (row % 64) (λ e. two (omega (arith, both.1))) ∙ sym (ne_eqb r row two)
-          ] in
+        elim (cases_eq r row) [
+          | inl one ↦ ap (λ (n : ℕ). eqb (n % 64) (row % 64)) one ∙ eq-eqb (row % 64) (row % 64) refl ∙ sym (eq-eqb r row one)
+          | inr two ↦ ne_eqb (r % 64) (row % 64) (λ e. two (omega (arith, both.1))) ∙ sym (ne_eqb r row two)
+        ] in
         ap (λ (n : ℕ). is_set (get_or (set buffer at word) n 0) (r % 64)) same
         ∙ ap (λ (n : ℕ). is_set n (r % 64)) (get_or-set_same buffer at word 0 (omega arith))
         ∙ bits (r % 64) (omega arith)
@@ -108,8 +109,8 @@ row_from_lanes : (t : TileView) (r : ℕ) (bits : List Bool) → IsRow t r → l
 row_from_lanes t r bits row long lanes =
     ext_get_or false (row_of t r) bits (length-row_of t r ∙ sym long)
     (λ c within.
-      let small : c < t.columns = omega (arith, length-row_of t r) in
-      get_or-row_of t r c row small ∙ lanes c small)
+    let small : c < t.columns = omega (arith, length-row_of t r) in
+    get_or-row_of t r c row small ∙ lanes c small)
 
 -- a line was packed into a row
 pub packed_rows : (view t : TileView) (old new items : List ℕ) (row : ℕ) (line : List ℕ) → view ≡ t → items ≡ new → old ≡ view.buffer → length line ≡ t.columns →
@@ -118,24 +119,24 @@ pub packed_rows : (view t : TileView) (old new items : List ℕ) (row : ℕ) (li
 packed_rows view t old new items row line is items_are old_is long lanes =
     let P : TileView → Type 0 = λ t. length line ≡ t.columns → (r : ℕ) → IsRow t r → row_of (record view { buffer = items }) r ≡ cond (eqb r row) (bits_of line) (row_of t r) in
     subst P is (λ long r row_small.
-      let after : TileView = record view { buffer = items } in
-      let lane_is : (c : ℕ) → c < view.columns → lane_at view.words items c r ≡ cond (eqb r row) (eqb (get_or line c 0) 49) (lane_at view.words view.buffer c r) =
-        λ (c : ℕ) (small : c < view.columns).
-          ap (λ (l : List ℕ). lane_at view.words l c r) items_are ∙ lanes c r row_small
-          ∙ ap (λ (x : Bool). cond (x && eqb r row) (eqb (get_or line c 0) 49) (lane_at view.words old c r)) (lt-ltb c (length line) (omega arith))
-          ∙ ap (λ (l : List ℕ). cond (eqb r row) (eqb (get_or line c 0) 49) (lane_at view.words l c r)) old_is in
-      elim (cases_eq r row) [
-        | inl same ↦
-            rw (eq-eqb r row same) (row_from_lanes after r (bits_of line) row_small (length-map line (λ (b : ℕ). eqb b 49) ∙ long)
-              (λ c small.
-                lane_is c small ∙ ap (λ (x : Bool). cond x (eqb (get_or line c 0) 49) (lane_at view.words view.buffer c r)) (eq-eqb r row same)
-                ∙ sym (get_or-map (λ (b : ℕ). eqb b 49) line c 0 false (omega arith))))
-        | inr other ↦
-            rw (ne_eqb r row other) (row_from_lanes after r (row_of view r) row_small (length-row_of view r)
-              (λ c small.
-                lane_is c small ∙ ap (λ (x : Bool). cond x (eqb (get_or line c 0) 49) (lane_at view.words view.buffer c r)) (ne_eqb r row other)
-                ∙ sym (get_or-row_of view r c row_small small)))
-      ]) long
+    let after : TileView = record view { buffer = items } in
+    let lane_is : (c : ℕ) → c < view.columns → lane_at view.words items c r ≡ cond (eqb r row) (eqb (get_or line c 0) 49) (lane_at view.words view.buffer c r) =
+    λ (c : ℕ) (small : c < view.columns).
+    ap (λ (l : List ℕ). lane_at view.words l c r) items_are ∙ lanes c r row_small
+    ∙ ap (λ (x : Bool). cond (x && eqb r row) (eqb (get_or line c 0) 49) (lane_at view.words old c r)) (lt-ltb c (length line) (omega arith))
+    ∙ ap (λ (l : List ℕ). cond (eqb r row) (eqb (get_or line c 0) 49) (lane_at view.words l c r)) old_is in
+    elim (cases_eq r row) [
+      | inl same ↦
+          rw (eq-eqb r row same) (row_from_lanes after r (bits_of line) row_small (length-map line (λ (b : ℕ). eqb b 49) ∙ long)
+          (λ c small.
+          lane_is c small ∙ ap (λ (x : Bool). cond x (eqb (get_or line c 0) 49) (lane_at view.words view.buffer c r)) (eq-eqb r row same)
+          ∙ sym (get_or-map (λ (b : ℕ). eqb b 49) line c 0 false (omega arith))))
+      | inr other ↦
+          rw (ne_eqb r row other) (row_from_lanes after r (row_of view r) row_small (length-row_of view r)
+          (λ c small.
+          lane_is c small ∙ ap (λ (x : Bool). cond x (eqb (get_or line c 0) 49) (lane_at view.words view.buffer c r)) (ne_eqb r row other)
+          ∙ sym (get_or-row_of view r c row_small small)))
+    ]) long
 
 -- the line that a row is unpacked to
 pub unpacked : (view t : TileView) (buffer : List ℕ) (n row : ℕ) → view ≡ t → buffer ≡ view.buffer → n ≡ t.columns → IsRow t row →
@@ -144,14 +145,14 @@ unpacked view t buffer n row is buffer_is =
     let f : ℕ → ℕ = λ (c : ℕ). digit_of (lane_at view.words buffer c row) in
     let P : TileView → Type 0 = λ t. n ≡ t.columns → IsRow t row → map f (range_with_len 0 n) ≡ line_of (row_of t row) in
     subst P is (λ n_is small.
-      ext_get_or 0 (map f (range_with_len 0 n)) (line_of (row_of view row))
-      (length-map-range_with_len f 0 n ∙ n_is ∙ sym (length-map (row_of view row) digit_of ∙ length-row_of view row))
-      (λ c within.
-        let below : c < n = omega (arith, length-map-range_with_len f 0 n) in
-        get_or-map-range_with_len f 0 n c c 0 below (omega arith)
-        ∙ ap (λ (l : List ℕ). digit_of (lane_at view.words l c row)) buffer_is
-        ∙ ap digit_of (sym (get_or-row_of view row c small (omega arith)))
-        ∙ sym (get_or-map digit_of (row_of view row) c false 0 (omega (arith, length-row_of view row)))))
+    ext_get_or 0 (map f (range_with_len 0 n)) (line_of (row_of view row))
+    (length-map-range_with_len f 0 n ∙ n_is ∙ sym (length-map (row_of view row) digit_of ∙ length-row_of view row))
+    (λ c within.
+    let below : c < n = omega (arith, length-map-range_with_len f 0 n) in
+    get_or-map-range_with_len f 0 n c c 0 below (omega arith)
+    ∙ ap (λ (l : List ℕ). digit_of (lane_at view.words l c row)) buffer_is
+    ∙ ap digit_of (sym (get_or-row_of view row c small (omega arith)))
+    ∙ sym (get_or-map digit_of (row_of view row) c false 0 (omega (arith, length-row_of view row)))))
 
 -- a new tile
 pub new_rows : (columns w : ℕ) (items : List ℕ) → items ≡ replicate (columns * w) 0 → (r : ℕ) → r < 64 * w →
@@ -160,10 +161,10 @@ unfolding lane_at
 new_rows columns w items is r small =
     row_from_lanes (record { columns = columns; words = w; buffer = items }) r (replicate columns false) small (length-replicate columns false)
     (λ c within.
-      let place : c * w + r / 64 < columns * w = omega (arith, low_within w c columns within) in
-      ap (λ (l : List ℕ). is_set (get_or l (c * w + r / 64) 0) (r % 64)) is
-      ∙ ap (λ (n : ℕ). is_set n (r % 64)) (get_or-replicate (columns * w) (c * w + r / 64) 0 0 place)
-      ∙ is_set-zero (r % 64) ∙ sym (get_or-replicate columns c false false within))
+    let place : c * w + r / 64 < columns * w = omega (arith, low_within w c columns within) in
+    ap (λ (l : List ℕ). is_set (get_or l (c * w + r / 64) 0) (r % 64)) is
+    ∙ ap (λ (n : ℕ). is_set n (r % 64)) (get_or-replicate (columns * w) (c * w + r / 64) 0 0 place)
+    ∙ is_set-zero (r % 64) ∙ sym (get_or-replicate columns c false false within))
 
 -- the words of a slice that is a column
 pub column_in_slice : (w : ℕ) (xs : List ℕ) (c start : ℕ) → start ≡ c * w → take (start + w - start) (drop start xs) ≡ column_in w xs c

@@ -9,6 +9,8 @@ mod limits;
 mod lines;
 mod rows;
 mod sizes;
+#[cfg(test)]
+mod tests;
 mod tile;
 
 pub use fault::LinesFault;

@@ -8,8 +8,8 @@ ghost use Rattle.pim_vectors.specs.Next.{within_limit, NoNewline, IsFound, IsOve
 use crate::bytes;
 use crate::fault::LinesFault;
 use crate::found::Found;
-use crate::sizes::Sizes;
 use crate::limits::{MAX_BYTES, MAX_LINES};
+use crate::sizes::Sizes;
 use pim_io::{NoMemory, Source};
 use std::alloc::Global;
 use std::marker::Model;

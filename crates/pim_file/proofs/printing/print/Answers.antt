@@ -1,7 +1,7 @@
 use Rattle.std.proofs.Common.{◌≡◌, ℕ, ◌<◌, take, Err, List, [], ◌++◌, ◌∙◌, ap, sym, subst, Ok, codes, length}
 use Rattle.pim_file.specs.Text.{counted_text, head_text, instrs_text, ports_text, text as text_of}
 use Rattle.pim_file.specs.declared.fault.FileFault.TheVariants as faults
-use Rattle.pim_file.specs.Reading.{parse1_of}
+use Rattle.pim_file.specs.ProgramFile.{parse1_of}
 use Rattle.pim_file.proofs.Laws.{parse1_of-text, parse1_of-cut}
 use Rattle.pim_file.proofs.printing.print.Goals as goal
 

@@ -7,6 +7,6 @@ returns c =
     let w = c.args.words in
     let buffer = c.args.buffer.now in
     let long : length c.ones_into.new.t ≡ c.args.words =
-      c.ones_into.auto.t ∙ ap length (column_in_slice w buffer c.args.t _ refl) ∙ length-column_in w buffer c.args.t c.requires in
+    c.ones_into.auto.t ∙ ap length (column_in_slice w buffer c.args.t _ refl) ∙ length-column_in w buffer c.args.t c.requires in
     stored_here w c.args.t _ (λ r. true) buffer c.ones_into.new.t refl c.requires long
     (λ r small. c.ones_into.ensures r (omega arith))

@@ -15,11 +15,11 @@ returns-clause-rows c = λ r row.
     let bank : IsBank b = subst IsBank c.self.view_is c.self.invariant in
     let m = row_of b r in
     let first : lane (column_of b c.column_for-first.result) r ≡ value m p =
-      ap (λ (n : ℕ). lane (column_of b n) r) (c.column_for-first.ensures ∙ ap (λ (v : BankView). column_for v.cells p) c.self.view_is)
-      ∙ operand_value b r p bank row fits.first.within in
+    ap (λ (n : ℕ). lane (column_of b n) r) (c.column_for-first.ensures ∙ ap (λ (v : BankView). column_for v.cells p) c.self.view_is)
+    ∙ operand_value b r p bank row fits.first.within in
     let second : lane (column_of b c.column_for-second.result) r ≡ value m q =
-      ap (λ (n : ℕ). lane (column_of b n) r) (c.column_for-second.ensures ∙ ap (λ (v : BankView). column_for v.cells q) c.self.view_is)
-      ∙ operand_value b r q bank row fits.second.within in
+    ap (λ (n : ℕ). lane (column_of b n) r) (c.column_for-second.ensures ∙ ap (λ (v : BankView). column_for v.cells q) c.self.view_is)
+    ∙ operand_value b r q bank row fits.second.within in
     c.rm3_columns.ensures.rows r row
     ∙ ap (λ (x : Bool). set m z (majority x (not (lane (column_of b c.column_for-second.result) r)) (bit m z))) first
     ∙ ap (λ (x : Bool). set m z (majority (value m p) (not x) (bit m z))) second

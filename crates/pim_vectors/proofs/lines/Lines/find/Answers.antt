@@ -10,8 +10,8 @@ returns-in_err-read_on-clause-unread g c = λ small.
     let mid = c.reading.self in
     let room = MAX_BYTES - mid.place in
     let same : line_len c.args.self.now.held ≡ length c.args.self.now.held =
-      no_line c.args.self.now.held mid.held c.newline-seen.result room c.reading.invariant.4 c.reading.invariant.5
-      c.newline-seen.ensures.before (omega arith) c.newline-seen.ensures.within (not_over room (length mid.held) c.if-is_over.ensures.over.1) in
+    no_line c.args.self.now.held mid.held c.newline-seen.result room c.reading.invariant.4 c.reading.invariant.5
+    c.newline-seen.ensures.before (omega arith) c.newline-seen.ensures.within (not_over room (length mid.held) c.if-is_over.ensures.over.1) in
     absurd (omega arith)
 
 pub returns-then-branch-eq0-clause-unread : goal.returns-then-branch-eq0-clause-unread
@@ -19,8 +19,8 @@ returns-then-branch-eq0-clause-unread g c = λ small.
     let mid = c.reading.self in
     let room = MAX_BYTES - mid.place in
     let same : line_len c.args.self.now.held ≡ length c.args.self.now.held =
-      no_line c.args.self.now.held mid.held c.newline-seen.result room c.reading.invariant.4 c.reading.invariant.5
-      c.newline-seen.ensures.before (omega arith) c.newline-seen.ensures.within (not_over room (length mid.held) c.if-is_over.ensures.over.1) in
+    no_line c.args.self.now.held mid.held c.newline-seen.result room c.reading.invariant.4 c.reading.invariant.5
+    c.newline-seen.ensures.before (omega arith) c.newline-seen.ensures.within (not_over room (length mid.held) c.if-is_over.ensures.over.1) in
     absurd (omega arith)
 
 pub reading-preserved : goal.reading-preserved
@@ -31,8 +31,7 @@ reading-preserved g c =
     let kept = c.reading.invariant in
     let read = c.in_ok-read_on.ensures in
     let more : length mid.held ≤ length new.held = omega (arith, read.len) in
-    let seen : c.newline-seen.result ≤ length (take room new.held) = seen_more mid.held new.held c.newline-seen.result room more c.newline-seen.ensures.within in
-    (
+    let seen : c.newline-seen.result ≤ length (take room new.held) = seen_more mid.held new.held c.newline-seen.result room more c.newline-seen.ensures.within in (
       took_then c.args.self.now mid new _ _ _ kept.0 read.took,
       rw read.took.place seen,
       none_kept mid.held new.held c.newline-seen.result read.kept (omega (arith, length-take room mid.held)) c.newline-seen.ensures.before,
@@ -40,5 +39,5 @@ reading-preserved g c =
       kept_then c.args.self.now.held mid.held new.held kept.4 kept.5 read.kept,
       omega arith,
       inr (no_line c.args.self.now.held mid.held c.newline-seen.result room kept.4 kept.5
-        c.newline-seen.ensures.before (omega arith) c.newline-seen.ensures.within (not_over room (length mid.held) c.if-is_over.ensures.over.1)),
+          c.newline-seen.ensures.before (omega arith) c.newline-seen.ensures.within (not_over room (length mid.held) c.if-is_over.ensures.over.1)),
     )

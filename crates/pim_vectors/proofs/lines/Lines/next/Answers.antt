@@ -47,10 +47,14 @@ returns g c =
     let held : take (inside.end - inside.start) (drop inside.start items) ≡ v.held = ap (λ (u : LinesView). u.held) is in
     let within : inside.start + s.whole ≤ inside.end = whole_within v _ _ s items inside.start inside.end next held c.self.invariant.ordered in
     let text : take (inside.start + s.text - inside.start) (drop inside.start c.deref.result.now) ≡ take s.text v.held =
-      text_cut items c.deref.result.now inside.start inside.end s.text c.deref.ensures.value (omega (arith, next.short)) ∙ ap (take s.text) held in (
-      (refl, λ _. tt, after_line c.args.self.now v _ _ _ _ s sizes.took next
-        (ap (λ (u : LinesView). u.longest) is) (ap (λ (u : LinesView). u.given + 1) is) (ap (λ (u : LinesView). u.place + s.whole) is)
-        (held_cut items inside.start inside.end s.whole within ∙ ap (drop s.whole) held) text),
+    text_cut items c.deref.result.now inside.start inside.end s.text c.deref.ensures.value (omega (arith, next.short)) ∙ ap (take s.text) held in (
+      (
+        refl,
+        λ _. tt,
+        after_line c.args.self.now v _ _ _ _ s sizes.took next
+            (ap (λ (u : LinesView). u.longest) is) (ap (λ (u : LinesView). u.given + 1) is) (ap (λ (u : LinesView). u.place + s.whole) is)
+            (held_cut items inside.start inside.end s.whole within ∙ ap (drop s.whole) held) text,
+      ),
       record {
         line = answer_before _ _ _ _ _ sizes.took (answer_of_line v _ _ s _ next text);
         refused = tt;

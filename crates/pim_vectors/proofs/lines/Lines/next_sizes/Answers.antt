@@ -18,8 +18,8 @@ returns-in_err-judge-clause-refused g c =
     let found = c.in_ok-found.ensures in
     let sizes = c.sizes-sizes in
     rw (p.1, p.2) (λ other.
-      found_refused _ _ _ _ c.in_ok-found.found sizes.result _ found.took.bytes found.found (omega (arith, sizes.ensures.whole)) sizes.ensures.text
-      (c.in_err-judge.ensures.refused _ (text_len c.find.new.self sizes.result _ sizes.ensures.short sizes.ensures.whole (found_within c.find.new.self _ _ c.in_ok-found.found found.found))))
+    found_refused _ _ _ _ c.in_ok-found.found sizes.result _ found.took.bytes found.found (omega (arith, sizes.ensures.whole)) sizes.ensures.text
+    (c.in_err-judge.ensures.refused _ (text_len c.find.new.self sizes.result _ sizes.ensures.short sizes.ensures.whole (found_within c.find.new.self _ _ c.in_ok-found.found found.found))))
 
 pub returns-clause-next : goal.returns-clause-next
 returns-clause-next g c =

@@ -10,5 +10,5 @@ returns-clause-took g c =
     let new : List ℕ = c.refill-read.new.buffer in
     took_from _ c.args.self.now _ _ _ (take c.in-Ok.n (drop held new)) c.self.view_is refl refl refl
     (held_after _ new inside.buffer.items c.deref_mut.result.now inside.start held c.in-Ok.n
-      (with_items_is inside.buffer new (c.refill-read.auto.buffer ∙ c.deref_mut.ensures.len)) c.deref_mut.ensures.value c.in-Ok.ensures.kept)
+    (with_items_is inside.buffer new (c.refill-read.auto.buffer ∙ c.deref_mut.ensures.len)) c.deref_mut.ensures.value c.in-Ok.ensures.kept)
     c.in-Ok.ensures.gave

@@ -1,0 +1,66 @@
+ghost use Rattle.std.specs.Prelude.{◌≡◌, length};
+
+use crate::{Lines, LinesFault, Tile, vector_fits};
+use pim_io::{MemSource, ReadSource};
+use std::test::Fail;
+
+#[test]
+fn lines_come_in_any_pieces(rt: HostRuntime) -> Result<(), Fail> {
+    for chunk in 1..5usize {
+        let mut source = MemSource::new(rt.alloc(), b"11\r\n\n0\n1\r", chunk, &[])?;
+        let mut lines = Lines::new(rt.alloc(), 2)?;
+        assert_eq!(rt; lines.next(&mut source)?, Some(b"11".as_slice()));
+        assert_eq!(rt; lines.next(&mut source)?, Some(b"".as_slice()));
+        assert_eq!(rt; lines.next(&mut source)?, Some(b"0".as_slice()));
+        assert_eq!(rt; lines.next(&mut source)?, Some(b"1\r".as_slice()));
+        assert_eq!(rt; lines.next(&mut source)?, None);
+    }
+    Ok(())
+}
+
+#[test]
+fn lines_come_from_a_reader(rt: HostRuntime) -> Result<(), Fail> {
+    let mut source = ReadSource::new(b"1\n0".as_slice());
+    let mut lines = Lines::new(rt.alloc(), 1)?;
+    assert_eq!(rt; lines.next(&mut source)?, Some(b"1".as_slice()));
+    assert_eq!(rt; lines.next(&mut source)?, Some(b"0".as_slice()));
+    assert_eq!(rt; lines.next(&mut source)?, None);
+    Ok(())
+}
+
+#[test]
+fn lines_are_refused(rt: HostRuntime) -> Result<(), Fail> {
+    let mut source = MemSource::new(rt.alloc(), b"1\n111\n", 9, &[])?;
+    let mut lines = Lines::new(rt.alloc(), 2)?;
+    assert_eq!(rt; lines.next(&mut source)?, Some(b"1".as_slice()));
+    assert_eq!(rt; lines.next(&mut source).err(), Some(LinesFault::Long(2)));
+    let mut failing = MemSource::new(rt.alloc(), b"1\n0\n", 3, &[1])?;
+    let mut lines = Lines::new(rt.alloc(), 2)?;
+    assert_eq!(rt; lines.next(&mut failing)?, Some(b"1".as_slice()));
+    assert_eq!(rt; lines.next(&mut failing).err(), Some(LinesFault::Fault));
+    Ok(())
+}
+
+#[test]
+fn vectors_are_judged(rt: HostRuntime) {
+    assert!(rt; vector_fits(b"101", 3));
+    assert!(rt; vector_fits(b"", 0));
+    assert!(rt; !vector_fits(b"101", 2));
+    assert!(rt; !vector_fits(b"12", 2));
+}
+
+#[test]
+fn a_row_is_packed(rt: HostRuntime) -> Result<(), Fail> {
+    let mut tile = Tile::new(rt.alloc(), 3, 2)?;
+    tile.pack(65, b"101");
+    tile.pack(0, b"010");
+    assert_eq!(rt; tile.column(0), [0, 2].as_slice());
+    assert_eq!(rt; tile.column(1), [1, 0].as_slice());
+    assert_eq!(rt; tile.column(2), [0, 2].as_slice());
+    let mut line = [0; 3];
+    tile.unpack(65, &mut line);
+    assert_eq!(rt; line, *b"101");
+    tile.unpack(64, &mut line);
+    assert_eq!(rt; line, *b"000");
+    Ok(())
+}
