@@ -1,3 +1,4 @@
 pub mod Complete
 pub mod Faulty
 pub mod Took
+pub mod Walking

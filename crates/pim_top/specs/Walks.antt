@@ -60,7 +60,7 @@ pub record TakesUp (old : WalkView) (left rest : List ℕ) (new : WalkView) : Ty
   pub packed : new.batch ≡ record old.batch { vectors = old.batch.vectors ++ bits_of line ∷ [] }
   pub longest : new.lines.longest ≡ old.lines.longest
   pub given : new.lines.given ≡ old.lines.given + 1
-  pub rest : new.lines.held ++ rest ≡ drop (line_len (old.lines.held ++ left) + 1) (old.lines.held ++ left)
+  pub behind : new.lines.held ++ rest ≡ drop (line_len (old.lines.held ++ left) + 1) (old.lines.held ++ left)
   pub place : new.lines.place + length (new.lines.held ++ rest) ≡ old.lines.place + length (old.lines.held ++ left)
   pub cut : lines (old.lines.held ++ left) ≡ line ∷ lines (new.lines.held ++ rest)
 
@@ -69,7 +69,7 @@ pub record Ends (old : WalkView) (left rest : List ℕ) (new : WalkView) : Type 
   pub said : says old left ≡ Ok None
   pub same : new.batch ≡ old.batch
   pub none : old.lines.held ++ left ≡ []
-  pub rest : new.lines.held ++ rest ≡ []
+  pub spent : new.lines.held ++ rest ≡ []
 
 -- a vector was packed, or there was none
 abbrev pub Goes : Bool → WalkView → List ℕ → List ℕ → WalkView → Type 0

@@ -1,5 +1,5 @@
 //! A program on its way over the lines of its vectors.
-ghost use Rattle.std.specs.Prelude.{◌≡◌, ℕ, ◌+◌, ◌<◌, List, IfErr, IfOk, OnOk, OnErr, length, true};
+ghost use Rattle.std.specs.Prelude.{◌≡◌, ◌≢◌, ℕ, ◌+◌, ◌<◌, ◌≤◌, List, [], IfErr, IfOk, OnOk, OnErr, length, true};
 ghost use Rattle.pim_io.specs.Outside.{Rose, Told, TookAll, TookFirst};
 ghost use Rattle.pim_batch.specs.Tables.{table, tile_rows};
 ghost use Rattle.pim_top.specs.Runs.{VectorsRefuse};
