@@ -11,7 +11,7 @@ use Rattle.pim_nor.specs.Network.{NorView}
 use Rattle.pim_nor.specs.Values.{out_values}
 use Rattle.pim_nor.specs.declared.lowering.Width.{Width}
 use Rattle.pim_simpler.specs.Means.{Means}
-use Rattle.pim_simpler.specs.Wide.{input_ports, labels_of}
+use Rattle.pim_isa.specs.PortLists.{input_ports, labels_of}
 use Rattle.pim_compile.specs.Computes.{Computes}
 
 pub composed : (p : ProgramView) (n : NetView) (w : NorView) (g : AigView) (width : Width) → g ≡ flat n → w ≡ nors g width → Means p w → ((bits : List Bool) → length bits ≡ g.inputs → out_values w bits ≡ map (aval g bits) g.outputs) → ((bits : List Bool) → length bits ≡ length n.inputs → map (aval g bits) g.outputs ≡ outs n bits) → p.inputs ≡ input_ports 0 n.input_labels → labels_of p.outputs ≡ n.output_labels → Computes p n

@@ -1,5 +1,5 @@
 use Rattle.std.proofs.Common.{◌∙◌, ap}
-use Rattle.pim_simpler.specs.Wide.{input_ports}
+use Rattle.pim_isa.specs.PortLists.{input_ports}
 use Rattle.pim_compile.proofs.Composed.{composed}
 use Rattle.pim_compile.proofs.compiling.magic.Goals as goal
 
