@@ -1,6 +1,8 @@
 -- How a walk over lines goes on.
-use Rattle.std.proofs.Common.{◌≡◌, ℕ, zero, suc, ◌+◌, ◌-◌, ◌*◌, ◌%◌, ◌<◌, ◌≤◌, ◌⊎◌, ◌&&◌, Bool, true, false, cond, ltb, List, [], ◌∷◌, ◌++◌, length, map, take, drop, Option, Some, None, Result, Ok, Err, inl, inr, refl, sym, ap, ◌∙◌, subst, arith, append_assoc, length-append}
+use Rattle.std.proofs.Common.{◌≡◌, ℕ, zero, suc, ◌+◌, ◌-◌, ◌*◌, ◌%◌, ◌<◌, ◌≤◌, ◌⊎◌, ◌&&◌, ◌||◌, Bool, true, false, cond, eqb, ltb, List, [], ◌∷◌, ◌++◌, length, get_or, map, take, drop, Option, Some, None, Result, Ok, Err, inl, inr, refl, sym, ap, ◌∙◌, subst, arith, append_assoc, length-append}
 use Rattle.std.proofs.lemmas.Bool.{cases_lt}
+use Rattle.std.proofs.lemmas.Bool.Decides.{nat_tests}
+use Rattle.std.proofs.lemmas.List.Elements.{All-head, All-tail}
 use Rattle.std.proofs.lemmas.Grind.{flat_map-append}
 use Rattle.std.proofs.lemmas.List.{length-map, take-append-le, take_all}
 use Rattle.std.proofs.lemmas.Nat.{mod-mul-add}
@@ -10,13 +12,19 @@ use Rattle.pim_isa.specs.Programs.{ProgramView}
 use Rattle.pim_isa.specs.declared.target.Fill.{Fill}
 use Rattle.pim_batch.specs.Batches.{BatchView}
 use Rattle.pim_batch.specs.Tables.{result_line, table, tile_rows}
+use Rattle.std.specs.Prelude.{All}
+use Rattle.std.specs.List.{list_all}
+use Rattle.std.specs.Borrow.{Bor}
+use Rattle.pim_vectors.specs.declared.limits.TheConstants.{MAX_LINES}
+use Rattle.pim_vectors.specs.Tiles.{IsVector}
 use Rattle.pim_vectors.specs.Lines.{line_len, lines, without_return}
-use Rattle.pim_vectors.specs.Next.{LinesView, ended, handed, judged, next_of, within_limit}
+use Rattle.pim_vectors.specs.Next.{IsAfter, LinesView, ended, handed, judged, next_of, within_limit}
 use Rattle.pim_vectors.specs.declared.fault.LinesFault.{LinesFault}
 use Rattle.pim_vectors.specs.declared.fault.LinesFault.TheVariants as faults
-use Rattle.pim_top.specs.Vectors.{AreVectors, HasVector, RanInPart, RanTiles, RanWhole, RefusedAt, StoppedAt, after_lines, full_rows, line_at, vectors_of, verdict, verdict_of}
-use Rattle.pim_top.specs.Walks.{Ends, IsRunning, IsWalk, TakesUp, WalkView, says, width}
+use Rattle.pim_top.specs.Vectors.{AreVectors, HasVector, RanInPart, RanTiles, RanWhole, RefusedAt, StoppedAt, after_lines, full_rows, is_vector, line_at, vectors_of, verdict, verdict_of}
+use Rattle.pim_top.specs.Walks.{Ends, GoesOn, IsRunning, IsWalk, Stops, TakesUp, WalkView, says, start, width}
 use Rattle.pim_top.specs.declared.refusal.Refusal.{Refusal}
+use Rattle.pim_top.specs.declared.refusal.Refusal.TheVariants as refusal
 
 -- what is held plays no part in what a walk answers
 ended-held : (v : LinesView) (h piece : List ℕ) → ended (record v { held = h }) piece ≡ ended v piece
@@ -32,13 +40,41 @@ next_of-held v h bytes =
       (cond (ltb (length piece) (length bytes) && ltb (length piece) (v.longest + 2)) (Err faults.TooLong) e))
     (ended-held v h piece)
 
+-- where no line is left, no byte is
+no-line : (a b : Bool) (text : List ℕ) (n : ℕ) → cond a (Err faults.TooMany) (cond b (Err (faults.Long n)) (Ok (Some text))) ≡ Ok None → ⊥
+no-line true b text n h = cc
+no-line false true text n h = cc
+no-line false false text n h = cc
+
+ended-none : (v : LinesView) (piece : List ℕ) → ended v piece ≡ Ok None → piece ≡ []
+ended-none v [] h = refl
+ended-none v (b ∷ piece) h = absurd (no-line (eqb v.given MAX_LINES) (ltb v.longest (length (b ∷ piece))) (b ∷ piece) (v.given + 1) h)
+
+judged-none : (v : LinesView) (piece text : List ℕ) (found over : Bool) → cond found (handed v text) (cond over (Err faults.TooLong) (ended v piece)) ≡ Ok None → (over ≡ false) × (piece ≡ [])
+judged-none v piece text true over h = absurd (no-line (eqb v.given MAX_LINES) (ltb v.longest (length text)) text (v.given + 1) h)
+judged-none v piece text false true h = cc
+judged-none v piece text false false h = (refl, ended-none v piece h)
+
+no-more : (bytes : List ℕ) (n longest : ℕ) → n ≡ 0 → (ltb n (length bytes) && ltb n (longest + 2)) ≡ false → bytes ≡ []
+no-more [] n longest e h = refl
+no-more (b ∷ bytes) n longest e h = absurd (let no : ⊥ = grind (arith, nat_tests) in no)
+
+none-left : (v : LinesView) (bytes : List ℕ) → next_of v bytes ≡ Ok None → bytes ≡ []
+unfolding next_of
+none-left v bytes h =
+    let piece : List ℕ = within_limit v bytes in
+    let w = judged-none v piece (without_return (take (line_len piece) piece)) (ltb (line_len piece) (length piece)) (ltb (length piece) (length bytes) && ltb (length piece) (v.longest + 2)) h in
+    no-more bytes (length piece) v.longest (ap length w.1) w.0
+
 -- one line further
 after-more : (n : ℕ) (bytes : List ℕ) → after_lines (n + 1) bytes ≡ drop (line_len (after_lines n bytes) + 1) (after_lines n bytes)
 after-more zero bytes = refl
-after-more (suc n) bytes = after-more n (drop (line_len bytes + 1) bytes)
+after-more (suc n) bytes =
+    let e : suc n + 1 ≡ suc (n + 1) = omega arith in
+    ap (λ (k : ℕ). after_lines k bytes) e ∙ after-more n (drop (line_len bytes + 1) bytes)
 
 -- what is said of the line behind those that were taken
-said-here : (bytes rest : List ℕ) (w : WalkView) (gone : List (List Bool)) → IsWalk bytes rest w gone → verdict (width w) bytes w.lines.given ≡ says w rest
+pub said-here : (bytes rest : List ℕ) (w : WalkView) (gone : List (List Bool)) → IsWalk bytes rest w gone → verdict (width w) bytes w.lines.given ≡ says w rest
 unfolding verdict
 said-here bytes rest w gone h =
     let n = w.lines.given in
@@ -104,13 +140,13 @@ pub table-append : (p : ProgramView) (fill : Fill) (xs ys : List (List Bool)) �
 table-append p fill xs ys = flat_map-append (result_line p fill) xs ys
 
 -- the vectors that were taken are there
-there : (bytes rest : List ℕ) (w : WalkView) (gone : List (List Bool)) → IsWalk bytes rest w gone → w.lines.given ≤ length (lines bytes)
+pub there : (bytes rest : List ℕ) (w : WalkView) (gone : List (List Bool)) → IsWalk bytes rest w gone → w.lines.given ≤ length (lines bytes)
 there bytes rest w gone h =
     let sizes = ap length h.cut in
     let more = vectors_of (w.lines.held ++ rest) in
     omega (arith, sizes, length-map (lines bytes) bits_of, length-append gone (w.batch.vectors ++ more), length-append w.batch.vectors more, h.given)
 
-take-front : {X : Type 0} (xs ys : List X) (n : ℕ) → n ≡ length xs → take n (xs ++ ys) ≡ xs
+pub take-front : {X : Type 0} (xs ys : List X) (n : ℕ) → n ≡ length xs → take n (xs ++ ys) ≡ xs
 take-front xs ys n same = take-append-le n xs ys (omega arith) ∙ take_all n xs (omega arith)
 
 -- the tiles that were written
@@ -137,3 +173,98 @@ refused-here bytes rest before now w r h said = record {
   tiles = tiles-ran bytes rest before now w h;
   refused = said-here bytes rest w h.gone h.walk ∙ said;
 }
+
+-- whether a line is a vector
+abbrev digit : ℕ → Type 0
+digit b = (b ≡ 48) ⊎ (b ≡ 49)
+
+digits-all : (line : List ℕ) → All digit line → list_all (λ b. eqb b 48 || eqb b 49) line ≡ true
+digits-all [] h = refl
+digits-all (b ∷ line) h =
+    let first : (eqb b 48 || eqb b 49) ≡ true = elim (All-head digit b line h) [ inl e ↦ grind (arith, nat_tests) | inr e ↦ grind (arith, nat_tests) ] in
+    rw first (digits-all line (All-tail digit b line h))
+
+both-true : (a b : Bool) → (a && b) ≡ true → (a ≡ true) × (b ≡ true)
+both-true true true h = (refl, refl)
+both-true true false h = cc
+both-true false b h = cc
+
+all-digits : (line : List ℕ) → list_all (λ b. eqb b 48 || eqb b 49) line ≡ true → (k d : ℕ) → k < length line → digit (get_or line k d)
+all-digits [] h k d within = absurd (omega arith)
+all-digits (b ∷ line) h zero d within =
+    let w = both-true (eqb b 48 || eqb b 49) (list_all (λ c. eqb c 48 || eqb c 49) line) h in
+    by (eqb b 48) (eqb b 49) refl refl w.0
+  where
+    by : (x y : Bool) → eqb b 48 ≡ x → eqb b 49 ≡ y → (x || y) ≡ true → digit b
+    by true y e f t = inl (grind (arith, nat_tests))
+    by false true e f t = inr (grind (arith, nat_tests))
+    by false false e f t = cc
+all-digits (b ∷ line) h (suc k) d within =
+    all-digits line (both-true (eqb b 48 || eqb b 49) (list_all (λ c. eqb c 48 || eqb c 49) line) h).1 k d (omega arith)
+
+pub vector-yes : (inputs : ℕ) (line : List ℕ) → IsVector inputs line → is_vector inputs line ≡ true
+vector-yes inputs line h =
+    let same : eqb (length line) inputs ≡ true = (let e = h.0 in grind (arith, nat_tests)) in
+    rw same (digits-all line h.1)
+
+pub vector-no : (inputs : ℕ) (line : List ℕ) → (IsVector inputs line → ⊥) → is_vector inputs line ≡ false
+vector-no inputs line refuse = by (is_vector inputs line) refl
+  where
+    by : (b : Bool) → is_vector inputs line ≡ b → b ≡ false
+    by false e = refl
+    by true e =
+        let w = both-true (eqb (length line) inputs) (list_all (λ b. eqb b 48 || eqb b 49) line) e in
+        let same : length line ≡ inputs = (let f = w.0 in grind (arith, nat_tests)) in
+        absurd (refuse (same, all-digits line w.1))
+
+-- a state after an answer, by what the answer is
+pub after-same : (old : LinesView) (a b : Option (List ℕ)) (r s : Result (Option (Bor (List ℕ))) LinesFault) (new : LinesView) → r ≡ s → IsAfter old a b r new → IsAfter old a b s new
+after-same old a b r s new e h = subst (λ (x : Result (Option (Bor (List ℕ))) LinesFault). IsAfter old a b x new) e h
+
+-- ---- what taking up a line does, where the source tells its bytes
+told-both : (a b : Option (List ℕ)) (P Q R : List ℕ → List ℕ → Type 0) → ((x y : List ℕ) → P x y → Q x y → R x y) → Told a b P → Told a b Q → Told a b R
+told-both None b P Q R f h k = tt
+told-both (Some x) None P Q R f h k = absurd h
+told-both (Some x) (Some y) P Q R f h k = f x y h k
+
+pub told-map : (a b : Option (List ℕ)) (P Q : List ℕ → List ℕ → Type 0) → ((x y : List ℕ) → P x y → Q x y) → Told a b P → Told a b Q
+told-map None b P Q f h = tt
+told-map (Some x) None P Q f h = absurd h
+told-map (Some x) (Some y) P Q f h = f x y h
+
+pub ends-told : (a b : Option (List ℕ)) (old new : WalkView) → IsAfter old.lines a b (Ok None) new.lines → Told a b (λ left rest. next_of old.lines (old.lines.held ++ left) ≡ Ok None) → new.batch ≡ old.batch → Told a b (λ left rest. Ends old left rest new)
+ends-told a b old new after said same =
+    told-both a b (λ left rest. next_of old.lines (old.lines.held ++ left) ≡ Ok None) (λ left rest. new.lines.held ++ rest ≡ old.lines.held ++ left) (λ left rest. Ends old left rest new)
+    (λ left rest s r.
+    let none = none-left old.lines (old.lines.held ++ left) s in
+    record { said = ap (verdict_of (width old) old.lines.given) s; same = same; none = none; spent = r ∙ none })
+    said after.rest
+
+vector-said : (inputs n : ℕ) (line : List ℕ) (b : Bool) → is_vector inputs line ≡ b → verdict_of inputs n (Ok (Some line)) ≡ cond b (Ok (Some line)) (Err (refusal.Vector (n + 1)))
+vector-said inputs n line b e = ap (λ (x : Bool). cond x (Ok (Some line)) (Err (refusal.Vector (n + 1)))) e
+
+pub taken-told : (a b : Option (List ℕ)) (old new : WalkView) (line : Bor (List ℕ)) → IsAfter old.lines a b (Ok (Some line)) new.lines → Told a b (λ left rest. next_of old.lines (old.lines.held ++ left) ≡ Ok (Some line.now)) → is_vector (width old) line.now ≡ true → new.batch ≡ record old.batch { vectors = old.batch.vectors ++ bits_of line.now ∷ [] } → Told a b (λ left rest. TakesUp old left rest new)
+taken-told a b old new line after said fits packed =
+    told-both a b (λ left rest. (next_of old.lines (old.lines.held ++ left) ≡ Ok (Some line.now)) × (lines (old.lines.held ++ left) ≡ line.now ∷ lines (new.lines.held ++ rest)))
+    (λ left rest. (new.lines.held ++ rest ≡ drop (line_len (old.lines.held ++ left) + 1) (old.lines.held ++ left)) × (new.lines.place + length (new.lines.held ++ rest) ≡ old.lines.place + length (old.lines.held ++ left)))
+    (λ left rest. TakesUp old left rest new)
+    (λ left rest s r. record {
+      line = line.now;
+      said = ap (verdict_of (width old) old.lines.given) s.0 ∙ vector-said (width old) old.lines.given line.now true fits;
+      packed = packed;
+      longest = after.longest;
+      given = after.given;
+      behind = r.0;
+      place = r.1;
+      cut = s.1;
+    })
+    (told-both a b _ _ _ (λ left rest s c. (s, c)) said after.cut)
+    (told-both a b _ _ _ (λ left rest s c. (s, c)) after.rest after.place)
+
+pub unfit-told : (a b : Option (List ℕ)) (old new : WalkView) (line : List ℕ) (n : ℕ) → Told a b (λ left rest. next_of old.lines (old.lines.held ++ left) ≡ Ok (Some line)) → is_vector (width old) line ≡ false → n ≡ old.lines.given + 1 → Told a b (λ left rest. Stops old left rest new (refusal.Vector n))
+unfit-told a b old new line n said unfit number =
+    told-map a b (λ left rest. next_of old.lines (old.lines.held ++ left) ≡ Ok (Some line)) (λ left rest. Stops old left rest new (refusal.Vector n))
+    (λ left rest s.
+    ap (verdict_of (width old) old.lines.given) s ∙ vector-said (width old) old.lines.given line false unfit
+    ∙ ap (λ (k : ℕ). Err (refusal.Vector k)) (sym number))
+    said

@@ -7,7 +7,7 @@ use Rattle.pim_isa.specs.Programs.{ProgramView}
 use Rattle.pim_isa.specs.declared.target.Fill.{Fill}
 use Rattle.pim_isa.specs.declared.target.Fill.TheVariants as fills
 use Rattle.pim_compile.specs.Refusals.{IsAccepted}
-use Rattle.pim_file.specs.Reading.{parse1_of}
+use Rattle.pim_file.specs.ProgramFile.{parse1_of}
 use Rattle.pim_file.specs.declared.fault.FileFault.{FileFault}
 use Rattle.pim_words.specs.Reading.{command_said, is_usage}
 use Rattle.pim_words.specs.declared.command.Command.{Command}

@@ -3,7 +3,7 @@ use Rattle.std.specs.Prelude.{◌≡◌, ◌⊎◌, ℕ, ◌<◌, ◌≤◌, Lis
 use Rattle.pim_io.specs.Outside.{Told}
 use Rattle.pim_isa.specs.Programs.{ProgramView}
 use Rattle.pim_isa.specs.declared.target.Fill.{Fill}
-use Rattle.pim_file.specs.Reading.{parse1_of}
+use Rattle.pim_file.specs.ProgramFile.{parse1_of}
 use Rattle.pim_file.specs.declared.fault.FileFault.{FileFault}
 use Rattle.pim_file.specs.declared.fault.FileFault.TheVariants as file
 use Rattle.pim_top.specs.Vectors.{RanWhole, RanInPart, RefusedAt, StoppedAt}

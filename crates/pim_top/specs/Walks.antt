@@ -1,11 +1,12 @@
 -- A program on its way over the lines of its vectors.
-use Rattle.std.specs.Prelude.{◌≡◌, ℕ, ◌+◌, ◌*◌, ◌<◌, Bool, true, false, List, [], ◌∷◌, ◌++◌, length, map, drop, Option, Some, None, Result, Ok, Err}
+use Rattle.std.specs.Prelude.{◌≡◌, ℕ, ◌+◌, ◌*◌, ◌<◌, ◌≤◌, Bool, true, false, List, [], ◌∷◌, ◌++◌, length, map, drop, Option, Some, None, Result, Ok, Err}
 use Rattle.pim_io.specs.Bits.{bits_of}
 use Rattle.pim_io.specs.Outside.{Told}
 use Rattle.pim_isa.specs.Programs.{ProgramView}
 use Rattle.pim_isa.specs.declared.target.Fill.{Fill}
 use Rattle.pim_batch.specs.Batches.{BatchView}
 use Rattle.pim_batch.specs.Tables.{table, tile_rows}
+use Rattle.pim_vectors.specs.declared.limits.TheConstants.{MAX_LINES}
 use Rattle.pim_vectors.specs.Lines.{line_len, lines}
 use Rattle.pim_vectors.specs.Next.{LinesView, next_of}
 use Rattle.pim_vectors.specs.declared.fault.LinesFault.{LinesFault}
@@ -81,6 +82,10 @@ abbrev pub Stops : WalkView → List ℕ → List ℕ → WalkView → Refusal �
 Stops old left rest new (refusal.ReadFault origin) =
     (new.lines.held ++ rest ≡ old.lines.held ++ left) × (line_len new.lines.held ≡ length new.lines.held)
 Stops old left rest new r = says old left ≡ Err r
+
+-- one line more was taken, and no more than the limit allows
+abbrev pub IsFurther : WalkView → WalkView → Type 0
+IsFurther old new = (new.lines.given ≡ old.lines.given + 1) × (new.lines.given ≤ MAX_LINES)
 
 -- where a walk over the lines of the bytes stands, of which some are left in the source: the vectors that were written,
 -- those that are packed, and those of the lines that follow

@@ -4,7 +4,7 @@ ghost use Rattle.pim_io.specs.Outside.{Rose, Told, TookAll, TookFirst};
 ghost use Rattle.pim_batch.specs.Tables.{table, tile_rows};
 ghost use Rattle.pim_top.specs.Runs.{VectorsRefuse};
 ghost use Rattle.pim_top.specs.Vectors.{RanWhole};
-ghost use Rattle.pim_top.specs.Walks.{GoesOn, Goes, IsOfVectors, IsRunning, Stops, lines_refusal, start};
+ghost use Rattle.pim_top.specs.Walks.{GoesOn, Goes, IsFurther, IsOfVectors, IsRunning, Stops, lines_refusal, start};
 
 use crate::refusal::{Limit, Origin, Refusal};
 use pim_batch::Batch;
@@ -20,9 +20,6 @@ pub(crate) struct Walk<'a> {
     batch: Batch<'a>,
     lines: Lines,
     inputs: u32,
-
-    // How many lines were taken.
-    taken: u32,
 }
 
 impl<'a> Model for Walk<'a> {
@@ -33,7 +30,7 @@ impl<'a> Model for Walk<'a> {
 
     ghost view = { λ w. record { batch = w.batch; lines = w.lines } };
 
-    ghost invariant = { λ w. (w.inputs ≡ length w.batch.program.inputs) × (w.taken ≡ w.lines.given) };
+    ghost invariant = { λ w. w.inputs ≡ length w.batch.program.inputs };
 }
 
 impl<'a> Walk<'a> {
@@ -46,7 +43,6 @@ impl<'a> Walk<'a> {
             batch: Batch::new(alloc, program, fill)?,
             lines: Lines::new(alloc, inputs)?,
             inputs,
-            taken: 0,
         })
     }
 
@@ -65,7 +61,10 @@ impl<'a> Walk<'a> {
             → Rose (S.faults input.old) (S.faults input.new)) }
         ensures write_fault { IfErr result (λ refusal. refusal ≡ Refusal.WriteFault → Rose (K.faults output.old) (K.faults output.new)) }
     {
-        while self.step(input, output)? {}
+        let mut more = true;
+        while more {
+            more = self.step(input, output)?;
+        }
         Ok(())
     }
 
@@ -81,6 +80,9 @@ impl<'a> Walk<'a> {
               IsRunning bytes left before taken self.old
               → VectorsRefuse self.old.batch.program self.old.batch.fill bytes rest before now refusal))) }
         ensures room { OnOk result (length self.new.batch.vectors < tile_rows self.new.batch.program) }
+        ensures further { IfOk result (λ more. more ≡ true → IsFurther self.old self.new) }
+        ensures input_faults { S.faults input.old ≤ S.faults input.new }
+        ensures output_faults { K.faults output.old ≤ K.faults output.new }
         ensures program { self.new.batch.program ≡ self.old.batch.program }
         ensures fill { self.new.batch.fill ≡ self.old.batch.fill }
         ensures kinds { IfErr result IsOfVectors }
@@ -88,11 +90,15 @@ impl<'a> Walk<'a> {
             → Rose (S.faults input.old) (S.faults input.new)) }
         ensures write_fault { IfErr result (λ refusal. refusal ≡ Refusal.WriteFault → Rose (K.faults output.old) (K.faults output.new)) }
     {
-        let more = self.take_up(input)?;
-        if !more || self.batch.is_full() {
+        if !self.take_up(input)? {
             self.flush(output)?;
+            return Ok(false);
         }
-        Ok(more)
+        if !self.batch.is_full() {
+            return Ok(true);
+        }
+        self.flush(output)?;
+        Ok(true)
     }
 
     /// Writes the results of the vectors that are packed; none is packed then.
@@ -105,6 +111,7 @@ impl<'a> Walk<'a> {
         ensures program { self.new.batch.program ≡ self.old.batch.program }
         ensures fill { self.new.batch.fill ≡ self.old.batch.fill }
         ensures fault { IfErr result (λ refusal. (refusal ≡ Refusal.WriteFault) × Rose (K.faults output.old) (K.faults output.new)) }
+        ensures never_falls { K.faults output.old ≤ K.faults output.new }
     {
         match self.batch.flush(output) {
             Ok(()) => Ok(()),
@@ -120,19 +127,24 @@ impl<'a> Walk<'a> {
         ensures program { self.new.batch.program ≡ self.old.batch.program }
         ensures fill { self.new.batch.fill ≡ self.old.batch.fill }
         ensures room { length self.new.batch.vectors ≤ tile_rows self.new.batch.program }
+        ensures further { IfOk result (λ more. more ≡ true → IsFurther self.old self.new) }
+        ensures never_falls { S.faults input.old ≤ S.faults input.new }
         ensures kinds { IfErr result IsOfVectors }
         ensures write_fault { IfErr result (λ refusal. refusal ≢ Refusal.WriteFault) }
         ensures read_fault { IfErr result (λ refusal. refusal ≡ Refusal.ReadFault Origin.Input
             → Rose (S.faults input.old) (S.faults input.new)) }
     {
+        let number = self.lines.given() + 1;
         match self.lines.next(input) {
             Ok(None) => Ok(false),
             Ok(Some(line)) => {
-                self.taken += 1;
                 if !vector_fits(line, self.inputs) {
-                    return Err(Refusal::Vector(self.taken));
+                    return Err(Refusal::Vector(number));
                 }
                 self.batch.push(line);
+
+                // It tells that there are no more lines than the limit allows.
+                let _given = self.lines.given();
                 Ok(true)
             }
             Err(fault) => Err(of_lines(fault)),

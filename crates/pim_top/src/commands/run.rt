@@ -1,7 +1,7 @@
 //! `run`: a program is executed on every vector of the input.
 ghost use Rattle.std.specs.Prelude.{◌≡◌, ◌≢◌, Ok, IfErr, IfOk, OnOk};
 ghost use Rattle.pim_io.specs.Outside.{Rose, Told};
-ghost use Rattle.pim_file.specs.Reading.{parse1_of};
+ghost use Rattle.pim_file.specs.ProgramFile.{parse1_of};
 ghost use Rattle.pim_top.specs.Runs.{FileRead, FileRefuses, RunRefuses, RunsWhole};
 ghost use Rattle.pim_top.specs.Statuses.{status_of};
 ghost use Rattle.pim_top.specs.Outcomes.{IsCounted};
