@@ -1,9 +1,9 @@
 -- Lanes of columns that stand one after another, and one bit written.
-use Rattle.std.proofs.Common.{◌≡◌, ◌≢◌, ℕ, ◌+◌, ◌-◌, ◌*◌, ◌/◌, ◌%◌, ◌^◌, ◌<◌, ◌≤◌, ◌⊎◌, inl, inr, Bool, true, false, ◌&&◌, cond, eqb, ltb, List, length, take, drop, set, get_or, map, replicate, bit_and, bit_or, refl, sym, ap, subst, ◌∙◌, arith}
+use Rattle.std.proofs.Common.{◌≡◌, ◌≢◌, ℕ, ◌+◌, ◌-◌, ◌*◌, ◌/◌, ◌%◌, ◌^◌, ◌<◌, ◌≤◌, ◌⊎◌, inl, inr, Bool, true, false, ◌&&◌, cond, eqb, ltb, List, ◌++◌, length, take, drop, set, get_or, map, replicate, bit_and, bit_or, refl, sym, ap, subst, ◌∙◌, arith}
 use Rattle.std.specs.List.{range_with_len}
 use Rattle.std.specs.Int.{bit_at, w64}
 use Rattle.std.proofs.lemmas.Bool.{cases_eq, cases_lt, eq-eqb, ne_eqb, lt-ltb}
-use Rattle.std.proofs.lemmas.List.{get_or-set_same, get_or-set_other, get_or-take, get_or-drop, get_or-map, get_or-replicate, length-map, length-replicate, ext_get_or}
+use Rattle.std.proofs.lemmas.List.{get_or-set_same, get_or-set_other, get_or-take, get_or-drop, get_or-map, get_or-replicate, get_or-append-add, get_or_append_left, length-map, length-replicate, length-set, length-take-le, ext_get_or}
 use Rattle.std.proofs.lemmas.List.FromFn.{length-map-range_with_len, get_or-map-range_with_len}
 use Rattle.std.proofs.lemmas.Nat.Bits.{shr_and_one, bit_at_set_same, bit_at_set_other, bit_at_clear_same, bit_at_clear_other, bit_at-zero}
 use Rattle.pim_io.specs.Lanes.{is_set, lane, column_in}
@@ -97,7 +97,7 @@ pub length-row_of : (t : TileView) (r : ℕ) → length (row_of t r) ≡ t.colum
 unfolding row_of
 length-row_of t r = length-map-range_with_len (λ (c : ℕ). lane (column_of t c) r) 0 t.columns
 
-get_or-row_of : (t : TileView) (r c : ℕ) → IsRow t r → c < t.columns → get_or (row_of t r) c false ≡ lane_at t.words t.buffer c r
+pub get_or-row_of : (t : TileView) (r c : ℕ) → IsRow t r → c < t.columns → get_or (row_of t r) c false ≡ lane_at t.words t.buffer c r
 unfolding row_of
 get_or-row_of t r c row small =
     get_or-map-range_with_len (λ (c : ℕ). lane (column_of t c) r) 0 t.columns c c false small (omega arith)
@@ -172,3 +172,75 @@ unfolding column_in
 column_in_slice w xs c start e =
     let n : start + w - start ≡ w = omega arith in
     rw n (ap (λ (k : ℕ). take w (drop k xs)) e)
+
+-- a column was written
+pub lane_at-put : (w k : ℕ) (buffer new : List ℕ) (start : ℕ) → start ≡ k * w → k * w + w ≤ length buffer → length new ≡ w →
+    (c r : ℕ) → r < 64 * w → lane_at w (take start buffer ++ (new ++ drop w (drop start buffer))) c r ≡ cond (eqb c k) (lane new r) (lane_at w buffer c r)
+unfolding lane lane_at
+lane_at-put w k buffer new start e within long c r small = by_cases (cases_eq c k)
+  where
+    i : ℕ
+    i = r / 64
+
+    front : List ℕ
+    front = take start buffer
+
+    back : List ℕ
+    back = drop w (drop start buffer)
+
+    front_len : length front ≡ k * w
+    front_len = length-take-le start buffer (omega arith) ∙ e
+
+    word : (c : ℕ) → ℕ
+    word c = get_or (front ++ (new ++ back)) (c * w + i) 0
+
+    by_cases : (c ≡ k) ⊎ (c ≢ k) → is_set (get_or (take start buffer ++ (new ++ drop w (drop start buffer))) (c * w + r / 64) 0) (r % 64)
+        ≡ cond (eqb c k) (is_set (get_or new (r / 64) 0) (r % 64)) (is_set (get_or buffer (c * w + r / 64) 0) (r % 64))
+    by_cases (inl same) =
+        rw (eq-eqb c k same)
+        (ap (λ (n : ℕ). is_set n (r % 64))
+        (ap (λ (n : ℕ). get_or (front ++ (new ++ back)) n 0) (ap (λ (n : ℕ). n * w + i) same ∙ ap (λ (n : ℕ). n + i) (sym front_len))
+        ∙ get_or-append-add front (new ++ back) i 0
+        ∙ get_or_append_left new back 0 i (omega arith)))
+    by_cases (inr apart) =
+        rw (ne_eqb c k apart)
+        (ap (λ (n : ℕ). is_set n (r % 64))
+        (elim (cases_lt c k) [
+          | inl below ↦
+              let low : c * w + i < k * w = omega (arith, low_within w c k below) in
+              get_or_append_left front (new ++ back) 0 (c * w + i) (omega (arith, front_len)) ∙ get_or-take start buffer (c * w + i) 0 (omega arith)
+          | inr above ↦
+              let high : k * w + w ≤ c * w = low_within w k c (omega arith) in
+              let j : ℕ = c * w + i - (k * w + w) in
+              let place : c * w + i ≡ length front + (length new + j) = omega (arith, front_len) in
+              ap (λ (n : ℕ). get_or (front ++ (new ++ back)) n 0) place
+              ∙ get_or-append-add front (new ++ back) (length new + j) 0
+              ∙ get_or-append-add new back j 0
+              ∙ get_or-drop w (drop start buffer) j 0
+              ∙ get_or-drop start buffer (w + j) 0
+              ∙ ap (λ (n : ℕ). get_or buffer n 0) (omega arith)
+        ]))
+
+-- the rows after a column was written
+pub put_rows : (view t : TileView) (old new items : List ℕ) (k : ℕ) (column : List ℕ) → view ≡ t → items ≡ new → old ≡ view.buffer → k < t.columns →
+    ((c r : ℕ) → r < 64 * view.words → lane_at view.words new c r ≡ cond (eqb c k) (lane column r) (lane_at view.words old c r)) →
+    (r : ℕ) → IsRow t r → row_of (record view { buffer = items }) r ≡ set (row_of t r) k (lane column r)
+put_rows view t old new items k column is items_are old_is small lanes =
+    let P : TileView → Type 0 = λ t. k < t.columns → (r : ℕ) → IsRow t r → row_of (record view { buffer = items }) r ≡ set (row_of t r) k (lane column r) in
+    subst P is (λ small r row.
+    let m : List Bool = row_of view r in
+    let x : Bool = lane column r in
+    row_from_lanes (record view { buffer = items }) r (set m k x) row (length-set m k x ∙ length-row_of view r)
+    (λ c within.
+    ap (λ (l : List ℕ). lane_at view.words l c r) items_are ∙ lanes c r row
+    ∙ ap (λ (l : List ℕ). cond (eqb c k) x (lane_at view.words l c r)) old_is
+    ∙ elim (cases_eq c k) as (λ _. cond (eqb c k) x (lane_at view.words view.buffer c r) ≡ get_or (set m k x) c false) [
+      | inl same ↦
+          rw (eq-eqb c k same) (sym (ap (λ (n : ℕ). get_or (set m k x) n false) same ∙ get_or-set_same m k x false (omega (arith, length-row_of view r))))
+      | inr apart ↦
+          rw (ne_eqb c k apart) (sym (get_or-set_other m k c x false apart ∙ get_or-row_of view r c row within))
+    ])) small
+
+-- a lane of a column is the bit of its row
+pub column_lanes : (t : TileView) (r c : ℕ) → IsRow t r → c < t.columns → lane (column_of t c) r ≡ get_or (row_of t r) c false
+column_lanes t r c row small = lane-column t.words t.buffer c r row ∙ sym (get_or-row_of t r c row small)

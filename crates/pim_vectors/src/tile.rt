@@ -1,5 +1,6 @@
-ghost use Rattle.std.specs.Prelude.{◌≡◌, ℕ, ◌+◌, ◌*◌, ◌<◌, ◌≤◌, ◌==◌, if◌then◌else◌, false, length, replicate, IfOk};
+ghost use Rattle.std.specs.Prelude.{◌≡◌, ℕ, ◌+◌, ◌*◌, ◌<◌, ◌≤◌, ◌==◌, if◌then◌else◌, false, length, replicate, slice_index_or, slice_set, IfOk};
 ghost use Rattle.pim_io.specs.Bits.{bits_of, line_of};
+ghost use Rattle.pim_io.specs.Lanes.{lane};
 ghost use Rattle.pim_vectors.specs.Tiles.{column_of, row_of, IsRow, IsTile, IsVector, SameSizes};
 
 use crate::rows;
@@ -64,8 +65,19 @@ impl Tile {
         requires { k < self.now.columns }
         ensures value { result.now ≡ column_of self.now k }
         ensures long { length result.now ≡ self.now.words }
+        ensures lanes { (r : ℕ) → IsRow self.now r → lane result.now r ≡ slice_index_or (row_of self.now r) k false }
     {
         let start = k as usize * self.words;
         &self.buffer[start..start + self.words]
+    }
+
+    /// Writes the words of a column.
+    pub fn put_column(&mut self, k: u32, words: &[u64])
+        requires column { k < self.old.columns }
+        requires long { length words.now ≡ self.old.words }
+        ensures rows { (r : ℕ) → IsRow self.old r → row_of self.new r ≡ slice_set (row_of self.old r) k (lane words.now r) }
+        ensures sizes { SameSizes self.old self.new }
+    {
+        rows::put_column(&mut self.buffer, self.words, k as usize, words);
     }
 }
