@@ -3,5 +3,7 @@
 #![tactic(auto)]
 
 mod batch;
+#[cfg(test)]
+mod tests;
 
 pub use batch::Batch;
