@@ -1,15 +1,11 @@
-//! Vectors that are executed together: a row of a tile for each.
-ghost use Rattle.std.specs.Prelude.{◌≡◌, ℕ, ◌+◌, ◌*◌, ◌<◌, ◌≤◌, ◌++◌, ◌∷◌, ◌↔◌, [], length, map, take, IsTrue, OnOk, OnErr, IfOk};
+ghost use Rattle.std.specs.Prelude.{◌≡◌, ◌+◌, ◌*◌, ◌<◌, ◌≤◌, ◌++◌, ◌∷◌, ◌↔◌, [], length, IsTrue, OnOk, OnErr, IfOk};
 ghost use Rattle.pim_io.specs.Bits.{bits_of};
 ghost use Rattle.pim_io.specs.Outside.{Rose, TookAll, TookFirst};
-ghost use Rattle.pim_isa.specs.Results.{load};
-ghost use Rattle.pim_isa.specs.Steps.{bit};
-ghost use Rattle.pim_lanes.specs.Banks.{row_of, SameFrame};
-ghost use Rattle.pim_vectors.specs.Tiles.{IsVector, row_of as tile_row};
-ghost use Rattle.pim_batch.specs.Batches.{IsRoom, row_line, row_lines};
+ghost use Rattle.pim_vectors.specs.Tiles.{IsVector};
 ghost use Rattle.pim_batch.specs.Tables.{table, tile_rows, tile_words};
 
-use pim_io::{NoMemory, Sink, SinkFault, write_all};
+use crate::{lines, rows};
+use pim_io::{NoMemory, Sink, SinkFault};
 use pim_isa::{Fill, Program};
 use pim_lanes::Bank;
 use pim_vectors::Tile;
@@ -98,10 +94,10 @@ impl<'a> Batch<'a> {
         ensures emptied { OnOk result (self.new ≡ record self.old { vectors = [] }) }
         ensures stays { OnErr result (self.new ≡ self.old) }
     {
-        load_vectors(&mut self.bank, self.program, self.fill, &self.vectors);
+        rows::load_vectors(&mut self.bank, self.program, self.fill, &self.vectors);
         self.bank.run(self.program);
-        gather_results(&mut self.results, self.program, &self.bank);
-        write_results(&self.results, self.rows, &mut self.line, output)?;
+        rows::gather_results(&mut self.results, self.program, &self.bank);
+        lines::write_results(&self.results, self.rows, &mut self.line, output)?;
         self.rows = 0;
         Ok(())
     }
@@ -116,84 +112,4 @@ fn tile_words(program: &Program) -> usize
     } else {
         4
     }
-}
-
-/// Makes each row of a bank the row at the start for that row's vector.
-fn load_vectors(bank: &mut Bank, program: &Program, fill: Fill, vectors: &Tile)
-    requires cells { bank.old.cells ≡ program.now.cells }
-    requires columns { vectors.now.columns ≡ length program.now.inputs }
-    requires words { vectors.now.words ≡ bank.old.words }
-    ensures rows { (r : ℕ) → r < 64 * bank.old.words → row_of bank.new r ≡ load program.now fill (tile_row vectors.now r) }
-    ensures frame { SameFrame bank.old bank.new }
-{
-    bank.fill(fill);
-    for (k, port) in program.inputs().iter().enumerate() {
-        bank.put_column(port.cell, vectors.column(k as u32));
-    }
-}
-
-/// Makes each row of a tile the bits of the output cells in that row of a bank.
-fn gather_results(results: &mut Tile, program: &Program, bank: &Bank)
-    requires cells { bank.now.cells ≡ program.now.cells }
-    requires columns { results.old.columns ≡ length program.now.outputs }
-    requires words { results.old.words ≡ bank.now.words }
-    ensures rows { (r : ℕ) → r < 64 * bank.now.words
-        → tile_row results.new r ≡ map (λ o. bit (row_of bank.now r) o.cell) program.now.outputs }
-    ensures columns { results.new.columns ≡ results.old.columns }
-    ensures words { results.new.words ≡ results.old.words }
-{
-    for (k, port) in program.outputs().iter().enumerate() {
-        results.put_column(k as u32, bank.column(port.cell));
-    }
-}
-
-/// Writes the first rows of a tile, a line of characters for each; `line` is room for one, with the newline behind it.
-fn write_results<K: Sink>(
-    results: &Tile,
-    rows: u32,
-    line: &mut [u8],
-    output: &mut K,
-) -> Result<(), SinkFault>
-    requires rows { rows ≤ 64 * results.now.words }
-    requires room { IsRoom results.now.columns line.old }
-    ensures whole { OnOk result (TookAll (K.taken output.old) (K.taken output.new) (row_lines results.now rows)) }
-    ensures prefix { OnErr result (TookFirst (K.taken output.old) (K.taken output.new) (row_lines results.now rows)) }
-    ensures counted { OnErr result (Rose (K.faults output.old) (K.faults output.new)) }
-    ensures never_falls { K.faults output.old ≤ K.faults output.new }
-    ensures room { IsRoom results.now.columns line.new }
-{
-    for row in 0..rows {
-        write_row(results, row, line, output)?;
-    }
-    Ok(())
-}
-
-/// Writes one row of a tile as a line of characters; `line` is room for it, with the newline behind it.
-fn write_row<K: Sink>(
-    results: &Tile,
-    row: u32,
-    line: &mut [u8],
-    output: &mut K,
-) -> Result<(), SinkFault>
-    requires row { row < 64 * results.now.words }
-    requires room { IsRoom results.now.columns line.old }
-    ensures whole { OnOk result (TookAll (K.taken output.old) (K.taken output.new) (row_line results.now row)) }
-    ensures prefix { OnErr result (TookFirst (K.taken output.old) (K.taken output.new) (row_line results.now row)) }
-    ensures counted { OnErr result (Rose (K.faults output.old) (K.faults output.new)) }
-    ensures never_falls { K.faults output.old ≤ K.faults output.new }
-    ensures room { IsRoom results.now.columns line.new }
-{
-    put_row(results, row, line);
-    write_all(output, line)
-}
-
-/// Puts one row of a tile into a line of characters; the newline behind it stays.
-fn put_row(results: &Tile, row: u32, line: &mut [u8])
-    requires row { row < 64 * results.now.words }
-    requires room { IsRoom results.now.columns line.old }
-    ensures value { line.new ≡ row_line results.now row }
-    ensures room { IsRoom results.now.columns line.new }
-{
-    let columns = line.len() - 1;
-    results.unpack(row, &mut line[..columns]);
 }

@@ -3,6 +3,8 @@
 #![tactic(auto)]
 
 mod batch;
+mod lines;
+mod rows;
 #[cfg(test)]
 mod tests;
 

@@ -1,6 +1,6 @@
 use Rattle.std.proofs.Common.{◌<◌, length, ap, sym, ◌∙◌, arith}
 use Rattle.pim_batch.proofs.RowLemmas.{port_within, loaded_more, frame_then}
-use Rattle.pim_batch.proofs.batch.load_vectors.Goals as goal
+use Rattle.pim_batch.proofs.rows.load_vectors.Goals as goal
 
 pub put_column-requires-clause-cell : goal.put_column-requires-clause-cell
 put_column-requires-clause-cell c =

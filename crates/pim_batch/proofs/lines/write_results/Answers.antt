@@ -1,7 +1,7 @@
 use Rattle.std.proofs.Common.{arith}
 use Rattle.std.proofs.lemmas.Result.{err_from_is_err_and}
 use Rattle.pim_batch.proofs.BatchLemmas.{rows_more, rows_first}
-use Rattle.pim_batch.proofs.batch.write_results.Goals as goal
+use Rattle.pim_batch.proofs.lines.write_results.Goals as goal
 
 pub loop-row-preserved : goal.loop-row-preserved
 loop-row-preserved g c =

@@ -1,7 +1,7 @@
 use Rattle.std.proofs.Common.{◌≤◌}
 use Rattle.pim_io.specs.Outside.{TookAll}
 use Rattle.pim_batch.specs.Batches.{IsRoom, row_lines}
-use Rattle.pim_batch.proofs.batch.write_results.Given as goal
+use Rattle.pim_batch.proofs.lines.write_results.Given as goal
 
 -- the sink took the lines of the rows so far
 abbrev pub invariant-loop-row : goal.invariant-loop-row

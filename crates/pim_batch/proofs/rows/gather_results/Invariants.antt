@@ -3,7 +3,7 @@ use Rattle.pim_isa.specs.Steps.{bit}
 use Rattle.pim_isa.specs.Sound.{cells_of}
 use Rattle.pim_lanes.specs.Banks.{row_of}
 use Rattle.pim_vectors.specs.Tiles.{row_of as tile_row, SameSizes}
-use Rattle.pim_batch.proofs.batch.gather_results.Given as goal
+use Rattle.pim_batch.proofs.rows.gather_results.Given as goal
 
 -- the columns of the outputs so far hold their cells' bits
 abbrev pub invariant-loop-k : goal.invariant-loop-k

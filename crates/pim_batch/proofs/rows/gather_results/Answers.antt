@@ -1,6 +1,6 @@
 use Rattle.std.proofs.Common.{◌<◌, length, ap, sym, ◌∙◌, arith}
 use Rattle.pim_batch.proofs.RowLemmas.{port_within, gathered_more, gathered}
-use Rattle.pim_batch.proofs.batch.gather_results.Goals as goal
+use Rattle.pim_batch.proofs.rows.gather_results.Goals as goal
 
 pub column-requires : goal.column-requires
 column-requires c =

@@ -2,7 +2,7 @@ use Rattle.std.proofs.Common.{◌≡◌, ℕ, ◌*◌, ◌<◌, drop}
 use Rattle.pim_isa.specs.Results.{with_inputs}
 use Rattle.pim_lanes.specs.Banks.{row_of, SameFrame}
 use Rattle.pim_vectors.specs.Tiles.{row_of as tile_row}
-use Rattle.pim_batch.proofs.batch.load_vectors.Given as goal
+use Rattle.pim_batch.proofs.rows.load_vectors.Given as goal
 
 -- the inputs that are left, put into the rows so far, give what all of them give
 abbrev pub invariant-loop-k : goal.invariant-loop-k
