@@ -3,12 +3,12 @@ use Rattle.std.proofs.Common.{◌≡◌, ◌≢◌, ℕ, ◌+◌, ◌-◌, ◌*�
 use Rattle.std.specs.List.{range_with_len}
 use Rattle.std.specs.Int.{bit_at, w64}
 use Rattle.std.proofs.lemmas.Bool.{cases_eq, cases_lt, eq-eqb, ne_eqb, lt-ltb}
-use Rattle.std.proofs.lemmas.List.{get_or-set_same, get_or-set_other, get_or-take, get_or-drop, get_or-map, get_or-replicate, get_or-append-add, get_or_append_left, length-map, length-replicate, length-set, length-take-le, ext_get_or}
+use Rattle.std.proofs.lemmas.List.{get_or-set_same, get_or-set_other, get_or-take, get_or-drop, get_or-map, get_or-replicate, get_or-append-add, get_or_append_left, length-map, length-replicate, length-append, length-drop, length-set, length-take-le, take-append-le, take_all, ext_get_or}
 use Rattle.std.proofs.lemmas.List.FromFn.{length-map-range_with_len, get_or-map-range_with_len}
 use Rattle.std.proofs.lemmas.Nat.Bits.{shr_and_one, bit_at_set_same, bit_at_set_other, bit_at_clear_same, bit_at_clear_other, bit_at-zero}
 use Rattle.pim_io.specs.Lanes.{is_set, lane, column_in}
 use Rattle.pim_io.specs.Bits.{bits_of, digit_of, line_of}
-use Rattle.pim_vectors.specs.Tiles.{TileView, lane_at, column_of, row_of, IsRow}
+use Rattle.pim_vectors.specs.Tiles.{TileView, lane_at, column_of, with_words, with_column, row_of, IsRow, IsTile}
 
 -- ---- one bit of a word
 pub is_set-shifted : (n i : ℕ) → eqb (bit_and (n / 2 ^ i) 1) 1 ≡ is_set n i
@@ -244,3 +244,48 @@ put_rows view t old new items k column is items_are old_is small lanes =
 -- a lane of a column is the bit of its row
 pub column_lanes : (t : TileView) (r c : ℕ) → IsRow t r → c < t.columns → lane (column_of t c) r ≡ get_or (row_of t r) c false
 column_lanes t r c row small = lane-column t.words t.buffer c r row ∙ sym (get_or-row_of t r c row small)
+
+-- a tile of these parts
+abbrev pub record_of : ℕ → ℕ → List ℕ → TileView
+record_of columns words buffer = record { columns = columns; words = words; buffer = buffer }
+
+-- words that were written from a place on, and the rest of the list behind them
+pub words_written : (columns words n start : ℕ) (items new : List ℕ) → n ≡ length items → start ≤ length items →
+    let x : List ℕ = take start items ++ (new ++ drop (length new) (drop start items)) in
+    record_of columns words (take n (x ++ drop (length x) items)) ≡ record_of columns words (with_words items start new)
+unfolding with_words
+words_written columns words n start items new e within =
+    let x : List ℕ = take start items ++ (new ++ drop (length new) (drop start items)) in
+    let long : length items ≤ length x =
+      omega (arith, within, length-append (take start items) (new ++ drop (length new) (drop start items)), length-take-le start items within,
+        length-append new (drop (length new) (drop start items)), length-drop {A = ℕ} (length new) (drop start items), length-drop start items) in
+    ap (record_of columns words)
+    (ap (λ (k : ℕ). take k (x ++ drop (length x) items)) e ∙ take-append-le (length items) x (drop (length x) items) long)
+
+-- the words of a column are as many as a column has
+pub length-column_of : (t : TileView) (k : ℕ) → IsTile t → k < t.columns → length (column_of t k) ≡ t.words
+unfolding column_in
+length-column_of t k tile small =
+    length-take-le t.words (drop (k * t.words) t.buffer)
+    (omega (arith, length-drop (k * t.words) t.buffer, tile.whole, low_within t.words k t.columns small))
+
+pub column_start : (t : TileView) (k : ℕ) → IsTile t → k < t.columns → k * t.words ≤ length t.buffer
+column_start t k tile small = omega (arith, tile.whole, low_within t.words k t.columns small)
+
+-- the rows with other words in a column
+pub with_column_rows : (t : TileView) (k : ℕ) (column : List ℕ) → IsTile t → k < t.columns → length column ≡ t.words →
+    (r : ℕ) → IsRow t r → row_of (with_column t k column) r ≡ set (row_of t r) k (lane column r)
+unfolding with_words
+with_column_rows t k column tile small long =
+    let w : ℕ = t.words in
+    let start : ℕ = k * w in
+    let within : start + w ≤ length t.buffer = omega (arith, tile.whole, low_within w k t.columns small) in
+    let new : List ℕ = take start t.buffer ++ (column ++ drop w (drop start t.buffer)) in
+    let count : length new ≡ length t.buffer =
+      omega (arith, within, long, length-append (take start t.buffer) (column ++ drop w (drop start t.buffer)), length-take-le start t.buffer (omega arith),
+        length-append column (drop w (drop start t.buffer)), length-drop {A = ℕ} w (drop start t.buffer), length-drop start t.buffer) in
+    let same : with_words t.buffer start column ≡ new =
+      ap (λ (n : ℕ). take (length t.buffer) (take start t.buffer ++ (column ++ drop n (drop start t.buffer)))) long
+      ∙ take_all (length t.buffer) new (omega arith) in
+    put_rows t t t.buffer new (with_words t.buffer start column) k column refl same refl small
+    (lane_at-put w k t.buffer column start refl within long)

@@ -77,7 +77,8 @@ fn a_row_is_packed(rt: HostRuntime) -> Result<(), Fail> {
     assert_eq!(rt; tile.column(0), [0, 2].as_slice());
     assert_eq!(rt; tile.column(1), [1, 0].as_slice());
     assert_eq!(rt; tile.column(2), [0, 2].as_slice());
-    tile.put_column(1, &[1, 1]);
+    tile.put_column(1, &[0, 1]);
+    tile.column_mut(1).copy_from_slice(&[1, 1]);
     let mut line = [0; 3];
     tile.unpack(65, &mut line);
     assert_eq!(rt; line, *b"101");

@@ -1,7 +1,7 @@
-ghost use Rattle.std.specs.Prelude.{◌≡◌, ℕ, ◌+◌, ◌*◌, ◌<◌, ◌≤◌, ◌==◌, if◌then◌else◌, false, length, replicate, slice_index_or, slice_set, IfOk};
+ghost use Rattle.std.specs.Prelude.{◌≡◌, ℕ, ◌+◌, ◌*◌, ◌<◌, ◌≤◌, ◌==◌, if◌then◌else◌, false, List, length, replicate, slice_index_or, slice_set, IfOk};
 ghost use Rattle.pim_io.specs.Bits.{bits_of, line_of};
 ghost use Rattle.pim_io.specs.Lanes.{lane};
-ghost use Rattle.pim_vectors.specs.Tiles.{column_of, row_of, IsRow, IsTile, IsVector, SameSizes};
+ghost use Rattle.pim_vectors.specs.Tiles.{column_of, with_column, row_of, IsRow, IsTile, IsVector, SameSizes};
 
 use crate::rows;
 use pim_io::NoMemory;
@@ -27,6 +27,9 @@ impl Model for Tile {
 }
 
 impl Tile {
+    ghost use Rattle.std.specs.Borrow.{sem};
+    ghost use Rattle.pim_vectors.specs.TileLending.{LendsColumn};
+
     /// A tile of that many columns, and 64 rows for each word of a column, all zero. Takes memory for all columns at once.
     pub fn new(alloc: Global, columns: u32, words: usize) -> Result<Tile, NoMemory>
         requires { words ≤ 64 }
@@ -69,6 +72,22 @@ impl Tile {
     {
         let start = k as usize * self.words;
         &self.buffer[start..start + self.words]
+    }
+
+    /// The words of a column, for writing.
+    pub fn column_mut(&mut self, k: u32) -> &mut [u64]
+        requires { k < self.old.columns }
+        ensures* lends { sem 𝓛 (LendsColumn self.entry k result) }
+        ensures value { result.now ≡ column_of self.old k }
+        ensures long { length result.now ≡ self.old.words }
+
+        // What the rows are then.
+        ensures rows { (column : List ℕ) → length column ≡ self.old.words → (r : ℕ) → IsRow self.old r
+            → row_of (with_column self.old k column) r ≡ slice_set (row_of self.old r) k (lane column r) }
+    {
+        let start = k as usize * self.words;
+        let end = start + self.words;
+        self.buffer.slice_mut(start..end)
     }
 
     /// Writes the words of a column.
