@@ -257,8 +257,15 @@ unfolding with_words
 words_written columns words n start items new e within =
     let x : List ℕ = take start items ++ (new ++ drop (length new) (drop start items)) in
     let long : length items ≤ length x =
-      omega (arith, within, length-append (take start items) (new ++ drop (length new) (drop start items)), length-take-le start items within,
-        length-append new (drop (length new) (drop start items)), length-drop {A = ℕ} (length new) (drop start items), length-drop start items) in
+    omega (
+      arith,
+      within,
+      length-append (take start items) (new ++ drop (length new) (drop start items)),
+      length-take-le start items within,
+      length-append new (drop (length new) (drop start items)),
+      length-drop {A = ℕ} (length new) (drop start items),
+      length-drop start items,
+    ) in
     ap (record_of columns words)
     (ap (λ (k : ℕ). take k (x ++ drop (length x) items)) e ∙ take-append-le (length items) x (drop (length x) items) long)
 
@@ -282,10 +289,18 @@ with_column_rows t k column tile small long =
     let within : start + w ≤ length t.buffer = omega (arith, tile.whole, low_within w k t.columns small) in
     let new : List ℕ = take start t.buffer ++ (column ++ drop w (drop start t.buffer)) in
     let count : length new ≡ length t.buffer =
-      omega (arith, within, long, length-append (take start t.buffer) (column ++ drop w (drop start t.buffer)), length-take-le start t.buffer (omega arith),
-        length-append column (drop w (drop start t.buffer)), length-drop {A = ℕ} w (drop start t.buffer), length-drop start t.buffer) in
+    omega (
+      arith,
+      within,
+      long,
+      length-append (take start t.buffer) (column ++ drop w (drop start t.buffer)),
+      length-take-le start t.buffer (omega arith),
+      length-append column (drop w (drop start t.buffer)),
+      length-drop {A = ℕ} w (drop start t.buffer),
+      length-drop start t.buffer,
+    ) in
     let same : with_words t.buffer start column ≡ new =
-      ap (λ (n : ℕ). take (length t.buffer) (take start t.buffer ++ (column ++ drop n (drop start t.buffer)))) long
-      ∙ take_all (length t.buffer) new (omega arith) in
+    ap (λ (n : ℕ). take (length t.buffer) (take start t.buffer ++ (column ++ drop n (drop start t.buffer)))) long
+    ∙ take_all (length t.buffer) new (omega arith) in
     put_rows t t t.buffer new (with_words t.buffer start column) k column refl same refl small
     (lane_at-put w k t.buffer column start refl within long)

@@ -15,8 +15,8 @@ returns c =
       (
         refl,
         λ w.
-          words_written inside.columns inside.words inside.buffer.len start items w inside.buffer.ok.0 (column_start _ c.args.k c.self.invariant small)
-          ∙ ap (λ (t : TileView). with_column t c.args.k w) is,
+            words_written inside.columns inside.words inside.buffer.len start items w inside.buffer.ok.0 (column_start _ c.args.k c.self.invariant small)
+            ∙ ap (λ (t : TileView). with_column t c.args.k w) is,
       ),
       record {
         lends = tt;
