@@ -82,8 +82,8 @@ impl<'a> Batch<'a> {
 
     /// Executes the vectors that are packed and writes a line of the characters `0` and `1` for each, in order; none is packed then.
     /// After a fault the vectors are still packed, and a second call would write those lines again that the sink took: drop the
-    /// batch. The cost is one kernel for each instruction, over all rows of the tile at once, and linear in the columns of the inputs
-    /// and outputs and in the characters that are written. Takes no memory.
+    /// batch. The program runs once, in all rows of the tile: a kernel or two for each instruction and one for each cell that an Init
+    /// names. Beside that the cost is linear in the cells and outputs and in the characters that are written. Takes no memory.
     pub fn flush<K: Sink>(&mut self, output: &mut K) -> Result<(), SinkFault>
         ensures whole { OnOk result (TookAll (K.taken output.old) (K.taken output.new)
             (table self.old.program self.old.fill self.old.vectors)) }
