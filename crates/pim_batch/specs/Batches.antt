@@ -14,7 +14,12 @@ pub record BatchView : Type 0 where
   pub fill : Fill
   pub vectors : List (List Bool)
 
--- what every batch keeps: the sizes that its program asks for, a newline behind the line, and room for the rows
+-- a line of so many characters has room in the list, and a newline stands behind it
+pub record IsRoom (columns : ℕ) (line : List ℕ) : Type 0 where
+  pub long : length line ≡ columns + 1
+  pub ended : line ≡ take columns line ++ 10 ∷ []
+
+-- what every batch keeps: the sizes that its program asks for, room for a line and for the rows
 pub record IsBatch (p : ProgramView) (bank : BankView) (vectors results : TileView) (line : List ℕ) (rows : ℕ) : Type 0 where
   pub cells : bank.cells ≡ p.cells
   pub words : bank.words ≡ tile_words p
@@ -22,10 +27,13 @@ pub record IsBatch (p : ProgramView) (bank : BankView) (vectors results : TileVi
   pub vector_words : vectors.words ≡ tile_words p
   pub result_columns : results.columns ≡ length p.outputs
   pub result_words : results.words ≡ tile_words p
-  pub long : length line ≡ length p.outputs + 1
-  pub ended : line ≡ take (length p.outputs) line ++ 10 ∷ []
-  pub room : rows ≤ 64 * tile_words p
+  pub line_room : IsRoom (length p.outputs) line
+  pub row_room : rows ≤ 64 * tile_words p
+
+-- a row of a tile as a line
+abbrev pub row_line : TileView → ℕ → List ℕ
+row_line t r = line_of (row_of t r) ++ 10 ∷ []
 
 -- the first rows of a tile, a line for each
 abbrev pub row_lines : TileView → ℕ → List ℕ
-row_lines t rows = flat_map (λ r. line_of (row_of t r) ++ 10 ∷ []) (range_with_len 0 rows)
+row_lines t rows = flat_map (row_line t) (range_with_len 0 rows)

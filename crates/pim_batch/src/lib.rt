@@ -3,5 +3,9 @@
 #![tactic(auto)]
 
 mod batch;
+mod lines;
+mod rows;
+#[cfg(test)]
+mod tests;
 
 pub use batch::Batch;
