@@ -19,7 +19,7 @@ use Rattle.pim_top.proofs.Took.{then-first}
 use Rattle.pim_top.proofs.Walking.{refused-here, said-here, table-append, take-front, there, tiles-ran, told-map, walk-flushed, walk-more}
 
 -- some rows make a tile
-tile-some : (p : ProgramView) → 0 < tile_rows p
+pub tile-some : (p : ProgramView) → 0 < tile_rows p
 tile-some p = grind (arith, nat_tests)
 
 -- the output where nothing is written
@@ -237,7 +237,7 @@ running-start a k p fill =
         longest = refl;
         given = refl;
         behind = refl;
-        place = refl;
+        place = omega arith;
         vectors = λ k small. absurd (omega arith);
         cut = refl;
       };

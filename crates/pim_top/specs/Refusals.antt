@@ -19,6 +19,7 @@ use Rattle.pim_top.specs.Netlists.{net_of, IsFault}
 use Rattle.pim_top.specs.declared.netlist.NetlistFault.{NetlistFault}
 use Rattle.pim_top.specs.declared.netlist.NetlistFault.TheVariants.{Aiger, Blif}
 use Rattle.pim_top.specs.declared.refusal.Limit.TheVariants as limit
+use Rattle.pim_top.specs.declared.refusal.Origin.TheVariants as origin
 use Rattle.pim_top.specs.declared.refusal.Refusal.{Refusal}
 use Rattle.pim_top.specs.declared.refusal.Refusal.TheVariants as refusal
 
@@ -100,7 +101,8 @@ PassesLimit bytes kind =
 -- what a refusal of `compile` says of the bytes of its input
 abbrev pub Explains : List ℕ → ℕ → Refusal → Type 0
 Explains bytes budget refusal.Usage = Unit {0}
-Explains bytes budget (refusal.ReadFault origin) = Unit {0}
+Explains bytes budget (refusal.ReadFault origin.Program) = ⊥
+Explains bytes budget (refusal.ReadFault origin.Input) = Unit {0}
 Explains bytes budget refusal.WriteFault = Unit {0}
 Explains bytes budget refusal.NoMemory = Unit {0}
 Explains bytes budget (refusal.TooFewCells needed) = NeedsMore bytes budget needed

@@ -50,6 +50,7 @@ fn program_of<P: Source>(alloc: Global, source: &mut P) -> Result<Program, Refus
     ensures read { IfOk result (λ program. Told (P.left source.old) (P.left source.new)
         (λ text rest. FileRead text rest × (parse1_of text ≡ Ok program))) }
     ensures refused { IfErr result (FileRefuses (P.left source.old) (P.left source.new)) }
+    ensures inside { IfErr result (λ refusal. refusal ≢ Refusal.Usage) }
     ensures read_fault { IfErr result (λ refusal. (o : Origin) → refusal ≡ Refusal.ReadFault o
         → Rose (P.faults source.old) (P.faults source.new)) }
 {
