@@ -65,6 +65,7 @@ impl Bank {
         requires { c < self.now.cells + 2 }
         ensures value { result.now ≡ column_of self.now c }
         ensures long { length result.now ≡ self.now.words }
+        ensures lanes { c < self.now.cells → (r : ℕ) → IsRow self.now r → lane result.now r ≡ bit (row_of self.now r) c }
         ensures bank { IsBank self.now }
     {
         let start = c as usize * self.words;

@@ -13,18 +13,15 @@ use Rattle.pim_aig.specs.Flat.{ands}
 use Rattle.pim_compile.specs.Refusals.{IsAccepted, wide_need}
 use Rattle.pim_compile.specs.declared.refusal.Refusal.{Refusal as Compiler}
 use Rattle.pim_compile.specs.declared.refusal.Refusal.TheVariants as compiler
-use Rattle.pim_words.specs.Reading.{command_said, is_usage}
-use Rattle.pim_words.specs.declared.command.Command.{Command}
-use Rattle.pim_words.specs.declared.command.Command.TheVariants.{Compile}
+use Rattle.pim_file.specs.declared.fault.FileFault.{FileFault}
+use Rattle.pim_file.specs.declared.fault.FileFault.TheVariants as file
 use Rattle.pim_top.specs.Netlists.{net_of, IsFault}
-use Rattle.pim_top.specs.Notes.{IsNoted, note}
 use Rattle.pim_top.specs.declared.netlist.NetlistFault.{NetlistFault}
 use Rattle.pim_top.specs.declared.netlist.NetlistFault.TheVariants.{Aiger, Blif}
-use Rattle.pim_top.specs.Statuses.{status_of}
 use Rattle.pim_top.specs.declared.refusal.Limit.TheVariants as limit
+use Rattle.pim_top.specs.declared.refusal.Origin.TheVariants as origin
 use Rattle.pim_top.specs.declared.refusal.Refusal.{Refusal}
 use Rattle.pim_top.specs.declared.refusal.Refusal.TheVariants as refusal
-use Rattle.pim_top.specs.declared.status.Status.{Status}
 
 -- the refusal of an AIGER fault: a limit and want of memory have statuses of their own
 abbrev pub aiger_refusal : AigerFault → Refusal
@@ -61,6 +58,14 @@ abbrev pub netlist_refusal : NetlistFault → Refusal
 netlist_refusal (Aiger fault) = aiger_refusal fault
 netlist_refusal (Blif fault) = blif_refusal fault
 
+-- the refusal of a fault of a program file
+abbrev pub file_refusal : FileFault → Refusal
+file_refusal (file.Line n) = refusal.File (file.Line n)
+file_refusal (file.Invalid fault) = refusal.File (file.Invalid fault)
+file_refusal file.Truncated = refusal.File file.Truncated
+file_refusal file.TooLarge = refusal.TooLarge limit.Cells
+file_refusal file.NoMemory = refusal.NoMemory
+
 -- the refusal of one of the compiler
 abbrev pub compile_refusal : Compiler → Refusal
 compile_refusal (compiler.TooFewCells needed) = refusal.TooFewCells needed
@@ -96,68 +101,37 @@ PassesLimit bytes kind =
 -- what a refusal of `compile` says of the bytes of its input
 abbrev pub Explains : List ℕ → ℕ → Refusal → Type 0
 Explains bytes budget refusal.Usage = Unit {0}
-Explains bytes budget refusal.ReadFault = Unit {0}
+Explains bytes budget (refusal.ReadFault origin.Program) = ⊥
+Explains bytes budget (refusal.ReadFault origin.Input) = Unit {0}
 Explains bytes budget refusal.WriteFault = Unit {0}
 Explains bytes budget refusal.NoMemory = Unit {0}
 Explains bytes budget (refusal.TooFewCells needed) = NeedsMore bytes budget needed
 Explains bytes budget (refusal.TooLarge limit.Bytes) = 67108864 < length bytes
 Explains bytes budget (refusal.TooLarge limit.Nodes) = HasTooManyNodes bytes
+Explains bytes budget (refusal.TooLarge limit.Rows) = ⊥
+Explains bytes budget (refusal.TooLarge limit.Cells) = ⊥
 Explains bytes budget (refusal.TooLarge (limit.Netlist kind)) = PassesLimit bytes kind
 Explains bytes budget (refusal.Netlist fault) = (net_of bytes ≡ Err fault) × IsFault fault
+Explains bytes budget (refusal.File fault) = ⊥
+Explains bytes budget (refusal.Vector n) = ⊥
 
 -- a refusal that judges the bytes that were read
 abbrev pub IsOfBytes : Refusal → Type 0
 IsOfBytes refusal.Usage = ⊥
-IsOfBytes refusal.ReadFault = ⊥
+IsOfBytes (refusal.ReadFault origin) = ⊥
 IsOfBytes refusal.WriteFault = Unit {0}
 IsOfBytes refusal.NoMemory = ⊥
 IsOfBytes (refusal.TooFewCells needed) = Unit {0}
 IsOfBytes (refusal.TooLarge limit.Bytes) = ⊥
 IsOfBytes (refusal.TooLarge limit.Nodes) = Unit {0}
+IsOfBytes (refusal.TooLarge limit.Rows) = ⊥
+IsOfBytes (refusal.TooLarge limit.Cells) = ⊥
 IsOfBytes (refusal.TooLarge (limit.Netlist kind)) = Unit {0}
 IsOfBytes (refusal.Netlist fault) = Unit {0}
+IsOfBytes (refusal.File fault) = ⊥
+IsOfBytes (refusal.Vector n) = ⊥
 
--- the number of cells that a command allows
-abbrev pub budget_of : Command → ℕ
-budget_of (Compile target level cells) = cells
-
--- what a refusal of a command says of the bytes of its input, where some were left before the call and some after it
-abbrev pub Refuses : Command → List ℕ → List ℕ → Refusal → Type 0
-Refuses command bytes rest r = Explains bytes (budget_of command) r × (IsOfBytes r → WasRead bytes rest)
-
--- a refusal that is explained whatever the command is
-abbrev pub IsAlwaysExplained : Option (List ℕ) → Option (List ℕ) → Refusal → Type 0
-IsAlwaysExplained left_before left_now r =
-    (command : Command) → Told left_before left_now (λ bytes rest. Refuses command bytes rest r)
-
--- words that say a command are refused only for what the command says of the bytes
-abbrev pub IsExplained : List (List ℕ) → Option (List ℕ) → Option (List ℕ) → Refusal → Type 0
-IsExplained words left_before left_now r =
-    (command : Command) → command_said words ≡ Some command → Told left_before left_now (λ bytes rest. Refuses command bytes rest r)
-
--- a call that ended with this status had a refusal of that status, which is explained, and whose note was written
-pub record IsRefused (words : List (List ℕ)) (left_before left_now noted_before noted_now : Option (List ℕ)) (faults_before faults_now : ℕ) (status : Status) : Type 0 where
-  pub refusal : Refusal
-  pub ends : status_of refusal ≡ status
-  pub explained : IsExplained words left_before left_now refusal
-  pub noted : IsNoted noted_before noted_now faults_before faults_now (note refusal)
-
--- the words say a command, and the bytes are a netlist within the limits for which its budget is enough
-pub record IsFine (words : List (List ℕ)) (bytes : List ℕ) : Type 0 where
-  pub command : Command
-  pub said : command_said words ≡ Some command
-  pub accepted : is_usage words ≡ false
-  pub fits : length bytes ≤ 67108864
-  pub draft : DraftView
-  pub is_net : net_of bytes ≡ Ok draft
-  pub enough : (net : NetView) → IsNet net → draft_of net ≡ draft → IsAccepted net (budget_of command)
-
--- the words say a command, and the bytes are within the limit and have a fault
-pub record IsFaulty (words : List (List ℕ)) (bytes : List ℕ) : Type 0 where
-  pub command : Command
-  pub said : command_said words ≡ Some command
-  pub accepted : is_usage words ≡ false
-  pub fits : length bytes ≤ 67108864
-  pub fault : NetlistFault
-  pub is_fault : net_of bytes ≡ Err fault
-  pub own : IsFault fault
+-- what a refusal of `compile` says of its input, of which some bytes were left before the call and some after it
+abbrev pub CompileRefuses : ℕ → Option (List ℕ) → Option (List ℕ) → Refusal → Type 0
+CompileRefuses budget left_before left_now r =
+    Told left_before left_now (λ bytes rest. Explains bytes budget r × (IsOfBytes r → WasRead bytes rest))

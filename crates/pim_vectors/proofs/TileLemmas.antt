@@ -1,14 +1,14 @@
 -- Lanes of columns that stand one after another, and one bit written.
-use Rattle.std.proofs.Common.{◌≡◌, ◌≢◌, ℕ, ◌+◌, ◌-◌, ◌*◌, ◌/◌, ◌%◌, ◌^◌, ◌<◌, ◌≤◌, ◌⊎◌, inl, inr, Bool, true, false, ◌&&◌, cond, eqb, ltb, List, length, take, drop, set, get_or, map, replicate, bit_and, bit_or, refl, sym, ap, subst, ◌∙◌, arith}
+use Rattle.std.proofs.Common.{◌≡◌, ◌≢◌, ℕ, ◌+◌, ◌-◌, ◌*◌, ◌/◌, ◌%◌, ◌^◌, ◌<◌, ◌≤◌, ◌⊎◌, inl, inr, Bool, true, false, ◌&&◌, cond, eqb, ltb, List, ◌++◌, length, take, drop, set, get_or, map, replicate, bit_and, bit_or, refl, sym, ap, subst, ◌∙◌, arith}
 use Rattle.std.specs.List.{range_with_len}
 use Rattle.std.specs.Int.{bit_at, w64}
 use Rattle.std.proofs.lemmas.Bool.{cases_eq, cases_lt, eq-eqb, ne_eqb, lt-ltb}
-use Rattle.std.proofs.lemmas.List.{get_or-set_same, get_or-set_other, get_or-take, get_or-drop, get_or-map, get_or-replicate, length-map, length-replicate, ext_get_or}
+use Rattle.std.proofs.lemmas.List.{get_or-set_same, get_or-set_other, get_or-take, get_or-drop, get_or-map, get_or-replicate, get_or-append-add, get_or_append_left, length-map, length-replicate, length-append, length-drop, length-set, length-take-le, take-append-le, take_all, ext_get_or}
 use Rattle.std.proofs.lemmas.List.FromFn.{length-map-range_with_len, get_or-map-range_with_len}
 use Rattle.std.proofs.lemmas.Nat.Bits.{shr_and_one, bit_at_set_same, bit_at_set_other, bit_at_clear_same, bit_at_clear_other, bit_at-zero}
 use Rattle.pim_io.specs.Lanes.{is_set, lane, column_in}
 use Rattle.pim_io.specs.Bits.{bits_of, digit_of, line_of}
-use Rattle.pim_vectors.specs.Tiles.{TileView, lane_at, column_of, row_of, IsRow}
+use Rattle.pim_vectors.specs.Tiles.{TileView, lane_at, column_of, with_words, with_column, row_of, IsRow, IsTile}
 
 -- ---- one bit of a word
 pub is_set-shifted : (n i : ℕ) → eqb (bit_and (n / 2 ^ i) 1) 1 ≡ is_set n i
@@ -97,7 +97,7 @@ pub length-row_of : (t : TileView) (r : ℕ) → length (row_of t r) ≡ t.colum
 unfolding row_of
 length-row_of t r = length-map-range_with_len (λ (c : ℕ). lane (column_of t c) r) 0 t.columns
 
-get_or-row_of : (t : TileView) (r c : ℕ) → IsRow t r → c < t.columns → get_or (row_of t r) c false ≡ lane_at t.words t.buffer c r
+pub get_or-row_of : (t : TileView) (r c : ℕ) → IsRow t r → c < t.columns → get_or (row_of t r) c false ≡ lane_at t.words t.buffer c r
 unfolding row_of
 get_or-row_of t r c row small =
     get_or-map-range_with_len (λ (c : ℕ). lane (column_of t c) r) 0 t.columns c c false small (omega arith)
@@ -172,3 +172,135 @@ unfolding column_in
 column_in_slice w xs c start e =
     let n : start + w - start ≡ w = omega arith in
     rw n (ap (λ (k : ℕ). take w (drop k xs)) e)
+
+-- a column was written
+pub lane_at-put : (w k : ℕ) (buffer new : List ℕ) (start : ℕ) → start ≡ k * w → k * w + w ≤ length buffer → length new ≡ w →
+    (c r : ℕ) → r < 64 * w → lane_at w (take start buffer ++ (new ++ drop w (drop start buffer))) c r ≡ cond (eqb c k) (lane new r) (lane_at w buffer c r)
+unfolding lane lane_at
+lane_at-put w k buffer new start e within long c r small = by_cases (cases_eq c k)
+  where
+    i : ℕ
+    i = r / 64
+
+    front : List ℕ
+    front = take start buffer
+
+    back : List ℕ
+    back = drop w (drop start buffer)
+
+    front_len : length front ≡ k * w
+    front_len = length-take-le start buffer (omega arith) ∙ e
+
+    word : (c : ℕ) → ℕ
+    word c = get_or (front ++ (new ++ back)) (c * w + i) 0
+
+    by_cases : (c ≡ k) ⊎ (c ≢ k) → is_set (get_or (take start buffer ++ (new ++ drop w (drop start buffer))) (c * w + r / 64) 0) (r % 64)
+        ≡ cond (eqb c k) (is_set (get_or new (r / 64) 0) (r % 64)) (is_set (get_or buffer (c * w + r / 64) 0) (r % 64))
+    by_cases (inl same) =
+        rw (eq-eqb c k same)
+        (ap (λ (n : ℕ). is_set n (r % 64))
+        (ap (λ (n : ℕ). get_or (front ++ (new ++ back)) n 0) (ap (λ (n : ℕ). n * w + i) same ∙ ap (λ (n : ℕ). n + i) (sym front_len))
+        ∙ get_or-append-add front (new ++ back) i 0
+        ∙ get_or_append_left new back 0 i (omega arith)))
+    by_cases (inr apart) =
+        rw (ne_eqb c k apart)
+        (ap (λ (n : ℕ). is_set n (r % 64))
+        (elim (cases_lt c k) [
+          | inl below ↦
+              let low : c * w + i < k * w = omega (arith, low_within w c k below) in
+              get_or_append_left front (new ++ back) 0 (c * w + i) (omega (arith, front_len)) ∙ get_or-take start buffer (c * w + i) 0 (omega arith)
+          | inr above ↦
+              let high : k * w + w ≤ c * w = low_within w k c (omega arith) in
+              let j : ℕ = c * w + i - (k * w + w) in
+              let place : c * w + i ≡ length front + (length new + j) = omega (arith, front_len) in
+              ap (λ (n : ℕ). get_or (front ++ (new ++ back)) n 0) place
+              ∙ get_or-append-add front (new ++ back) (length new + j) 0
+              ∙ get_or-append-add new back j 0
+              ∙ get_or-drop w (drop start buffer) j 0
+              ∙ get_or-drop start buffer (w + j) 0
+              ∙ ap (λ (n : ℕ). get_or buffer n 0) (omega arith)
+        ]))
+
+-- the rows after a column was written
+pub put_rows : (view t : TileView) (old new items : List ℕ) (k : ℕ) (column : List ℕ) → view ≡ t → items ≡ new → old ≡ view.buffer → k < t.columns →
+    ((c r : ℕ) → r < 64 * view.words → lane_at view.words new c r ≡ cond (eqb c k) (lane column r) (lane_at view.words old c r)) →
+    (r : ℕ) → IsRow t r → row_of (record view { buffer = items }) r ≡ set (row_of t r) k (lane column r)
+put_rows view t old new items k column is items_are old_is small lanes =
+    let P : TileView → Type 0 = λ t. k < t.columns → (r : ℕ) → IsRow t r → row_of (record view { buffer = items }) r ≡ set (row_of t r) k (lane column r) in
+    subst P is (λ small r row.
+    let m : List Bool = row_of view r in
+    let x : Bool = lane column r in
+    row_from_lanes (record view { buffer = items }) r (set m k x) row (length-set m k x ∙ length-row_of view r)
+    (λ c within.
+    ap (λ (l : List ℕ). lane_at view.words l c r) items_are ∙ lanes c r row
+    ∙ ap (λ (l : List ℕ). cond (eqb c k) x (lane_at view.words l c r)) old_is
+    ∙ elim (cases_eq c k) as (λ _. cond (eqb c k) x (lane_at view.words view.buffer c r) ≡ get_or (set m k x) c false) [
+      | inl same ↦
+          rw (eq-eqb c k same) (sym (ap (λ (n : ℕ). get_or (set m k x) n false) same ∙ get_or-set_same m k x false (omega (arith, length-row_of view r))))
+      | inr apart ↦
+          rw (ne_eqb c k apart) (sym (get_or-set_other m k c x false apart ∙ get_or-row_of view r c row within))
+    ])) small
+
+-- a lane of a column is the bit of its row
+pub column_lanes : (t : TileView) (r c : ℕ) → IsRow t r → c < t.columns → lane (column_of t c) r ≡ get_or (row_of t r) c false
+column_lanes t r c row small = lane-column t.words t.buffer c r row ∙ sym (get_or-row_of t r c row small)
+
+-- a tile of these parts
+abbrev pub record_of : ℕ → ℕ → List ℕ → TileView
+record_of columns words buffer = record { columns = columns; words = words; buffer = buffer }
+
+-- words that were written from a place on, and the rest of the list behind them
+pub words_written : (columns words n start : ℕ) (items new : List ℕ) → n ≡ length items → start ≤ length items →
+    let x : List ℕ = take start items ++ (new ++ drop (length new) (drop start items)) in
+    record_of columns words (take n (x ++ drop (length x) items)) ≡ record_of columns words (with_words items start new)
+unfolding with_words
+words_written columns words n start items new e within =
+    let x : List ℕ = take start items ++ (new ++ drop (length new) (drop start items)) in
+    let long : length items ≤ length x =
+    omega (
+      arith,
+      within,
+      length-append (take start items) (new ++ drop (length new) (drop start items)),
+      length-take-le start items within,
+      length-append new (drop (length new) (drop start items)),
+      length-drop {A = ℕ} (length new) (drop start items),
+      length-drop start items,
+    ) in
+    ap (record_of columns words)
+    (ap (λ (k : ℕ). take k (x ++ drop (length x) items)) e ∙ take-append-le (length items) x (drop (length x) items) long)
+
+-- the words of a column are as many as a column has
+pub length-column_of : (t : TileView) (k : ℕ) → IsTile t → k < t.columns → length (column_of t k) ≡ t.words
+unfolding column_in
+length-column_of t k tile small =
+    length-take-le t.words (drop (k * t.words) t.buffer)
+    (omega (arith, length-drop (k * t.words) t.buffer, tile.whole, low_within t.words k t.columns small))
+
+pub column_start : (t : TileView) (k : ℕ) → IsTile t → k < t.columns → k * t.words ≤ length t.buffer
+column_start t k tile small = omega (arith, tile.whole, low_within t.words k t.columns small)
+
+-- the rows with other words in a column
+pub with_column_rows : (t : TileView) (k : ℕ) (column : List ℕ) → IsTile t → k < t.columns → length column ≡ t.words →
+    (r : ℕ) → IsRow t r → row_of (with_column t k column) r ≡ set (row_of t r) k (lane column r)
+unfolding with_words
+with_column_rows t k column tile small long =
+    let w : ℕ = t.words in
+    let start : ℕ = k * w in
+    let within : start + w ≤ length t.buffer = omega (arith, tile.whole, low_within w k t.columns small) in
+    let new : List ℕ = take start t.buffer ++ (column ++ drop w (drop start t.buffer)) in
+    let count : length new ≡ length t.buffer =
+    omega (
+      arith,
+      within,
+      long,
+      length-append (take start t.buffer) (column ++ drop w (drop start t.buffer)),
+      length-take-le start t.buffer (omega arith),
+      length-append column (drop w (drop start t.buffer)),
+      length-drop {A = ℕ} w (drop start t.buffer),
+      length-drop start t.buffer,
+    ) in
+    let same : with_words t.buffer start column ≡ new =
+    ap (λ (n : ℕ). take (length t.buffer) (take start t.buffer ++ (column ++ drop n (drop start t.buffer)))) long
+    ∙ take_all (length t.buffer) new (omega arith) in
+    put_rows t t t.buffer new (with_words t.buffer start column) k column refl same refl small
+    (lane_at-put w k t.buffer column start refl within long)

@@ -2,3 +2,4 @@ pub mod Lines
 pub mod Next
 pub mod Tiles
 pub mod Lending
+pub mod TileLending

@@ -1,6 +1,6 @@
 ghost use Rattle.std.specs.Prelude.{◌≡◌, ℕ, ◌+◌, ◌*◌, ◌/◌, ◌%◌, ◌<◌, ◌≤◌, ◌==◌, ◌&&◌, nat_lt, if◌then◌else◌, length, map, slice_index};
 ghost use Rattle.std.specs.List.{range_with_len};
-ghost use Rattle.pim_io.specs.Lanes.{is_set};
+ghost use Rattle.pim_io.specs.Lanes.{is_set, lane};
 ghost use Rattle.pim_io.specs.Bits.{digit_of};
 ghost use Rattle.pim_vectors.specs.Tiles.{lane_at};
 
@@ -37,6 +37,17 @@ fn put_bit(buffer: &mut [u64], words: usize, column: usize, row: usize, bit: boo
 {
     let at = column * words + row / 64;
     buffer[at] = with_bit(buffer[at], (row % 64) as u32, bit);
+}
+
+/// Writes the words of one column.
+pub(crate) fn put_column(buffer: &mut [u64], words: usize, column: usize, new: &[u64])
+    requires within { column * words + words ≤ length buffer.old }
+    requires long { length new.now ≡ words }
+    ensures { (c r : ℕ) → r < 64 * words → lane_at words buffer.new c r
+        ≡ (if c == column then lane new.now r else lane_at words buffer.old c r) }
+{
+    let start = column * words;
+    buffer[start..start + words].copy_from_slice(new);
 }
 
 /// Writes the bits of a line of the characters `0` and `1` into one lane of each column.

@@ -1,19 +1,39 @@
-ghost use Rattle.std.specs.Prelude.{◌≡◌, length};
-
 use crate::{Lines, LinesFault, Tile, vector_fits};
-use pim_io::{MemSource, ReadSource};
+use pim_io::{MemSource, ReadSource, Source};
+use std::process::Abort;
 use std::test::Fail;
+
+/// Asserts that this line is handed out next, or none.
+fn assert_next<S: Source>(
+    rt: &impl Abort,
+    lines: &mut Lines,
+    source: &mut S,
+    line: Option<&[u8]>,
+) -> Result<(), LinesFault> {
+    assert_eq!(rt; lines.next(source)?, line);
+    Ok(())
+}
+
+/// Asserts that the next line is refused.
+fn assert_refused<S: Source>(
+    rt: &impl Abort,
+    lines: &mut Lines,
+    source: &mut S,
+    fault: LinesFault,
+) {
+    assert_eq!(rt; lines.next(source).err(), Some(fault));
+}
 
 #[test]
 fn lines_come_in_any_pieces(rt: HostRuntime) -> Result<(), Fail> {
     for chunk in 1..5usize {
         let mut source = MemSource::new(rt.alloc(), b"11\r\n\n0\n1\r", chunk, &[])?;
         let mut lines = Lines::new(rt.alloc(), 2)?;
-        assert_eq!(rt; lines.next(&mut source)?, Some(b"11".as_slice()));
-        assert_eq!(rt; lines.next(&mut source)?, Some(b"".as_slice()));
-        assert_eq!(rt; lines.next(&mut source)?, Some(b"0".as_slice()));
-        assert_eq!(rt; lines.next(&mut source)?, Some(b"1\r".as_slice()));
-        assert_eq!(rt; lines.next(&mut source)?, None);
+        assert_next(&rt, &mut lines, &mut source, Some(b"11".as_slice()))?;
+        assert_next(&rt, &mut lines, &mut source, Some(b"".as_slice()))?;
+        assert_next(&rt, &mut lines, &mut source, Some(b"0".as_slice()))?;
+        assert_next(&rt, &mut lines, &mut source, Some(b"1\r".as_slice()))?;
+        assert_next(&rt, &mut lines, &mut source, None)?;
     }
     Ok(())
 }
@@ -22,9 +42,9 @@ fn lines_come_in_any_pieces(rt: HostRuntime) -> Result<(), Fail> {
 fn lines_come_from_a_reader(rt: HostRuntime) -> Result<(), Fail> {
     let mut source = ReadSource::new(b"1\n0".as_slice());
     let mut lines = Lines::new(rt.alloc(), 1)?;
-    assert_eq!(rt; lines.next(&mut source)?, Some(b"1".as_slice()));
-    assert_eq!(rt; lines.next(&mut source)?, Some(b"0".as_slice()));
-    assert_eq!(rt; lines.next(&mut source)?, None);
+    assert_next(&rt, &mut lines, &mut source, Some(b"1".as_slice()))?;
+    assert_next(&rt, &mut lines, &mut source, Some(b"0".as_slice()))?;
+    assert_next(&rt, &mut lines, &mut source, None)?;
     Ok(())
 }
 
@@ -32,12 +52,12 @@ fn lines_come_from_a_reader(rt: HostRuntime) -> Result<(), Fail> {
 fn lines_are_refused(rt: HostRuntime) -> Result<(), Fail> {
     let mut source = MemSource::new(rt.alloc(), b"1\n111\n", 9, &[])?;
     let mut lines = Lines::new(rt.alloc(), 2)?;
-    assert_eq!(rt; lines.next(&mut source)?, Some(b"1".as_slice()));
-    assert_eq!(rt; lines.next(&mut source).err(), Some(LinesFault::Long(2)));
+    assert_next(&rt, &mut lines, &mut source, Some(b"1".as_slice()))?;
+    assert_refused(&rt, &mut lines, &mut source, LinesFault::Long(2));
     let mut failing = MemSource::new(rt.alloc(), b"1\n0\n", 3, &[1])?;
     let mut lines = Lines::new(rt.alloc(), 2)?;
-    assert_eq!(rt; lines.next(&mut failing)?, Some(b"1".as_slice()));
-    assert_eq!(rt; lines.next(&mut failing).err(), Some(LinesFault::Fault));
+    assert_next(&rt, &mut lines, &mut failing, Some(b"1".as_slice()))?;
+    assert_refused(&rt, &mut lines, &mut failing, LinesFault::Fault);
     Ok(())
 }
 
@@ -57,10 +77,12 @@ fn a_row_is_packed(rt: HostRuntime) -> Result<(), Fail> {
     assert_eq!(rt; tile.column(0), [0, 2].as_slice());
     assert_eq!(rt; tile.column(1), [1, 0].as_slice());
     assert_eq!(rt; tile.column(2), [0, 2].as_slice());
+    tile.put_column(1, &[0, 1]);
+    tile.column_mut(1).copy_from_slice(&[1, 1]);
     let mut line = [0; 3];
     tile.unpack(65, &mut line);
     assert_eq!(rt; line, *b"101");
     tile.unpack(64, &mut line);
-    assert_eq!(rt; line, *b"000");
+    assert_eq!(rt; line, *b"010");
     Ok(())
 }

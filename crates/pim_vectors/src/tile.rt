@@ -1,6 +1,7 @@
-ghost use Rattle.std.specs.Prelude.{◌≡◌, ℕ, ◌+◌, ◌*◌, ◌<◌, ◌≤◌, ◌==◌, if◌then◌else◌, false, length, replicate, IfOk};
+ghost use Rattle.std.specs.Prelude.{◌≡◌, ℕ, ◌+◌, ◌*◌, ◌<◌, ◌≤◌, ◌==◌, if◌then◌else◌, false, List, length, replicate, slice_index_or, slice_set, IfOk};
 ghost use Rattle.pim_io.specs.Bits.{bits_of, line_of};
-ghost use Rattle.pim_vectors.specs.Tiles.{column_of, row_of, IsRow, IsTile, IsVector, SameSizes};
+ghost use Rattle.pim_io.specs.Lanes.{lane};
+ghost use Rattle.pim_vectors.specs.Tiles.{column_of, with_column, row_of, IsRow, IsTile, IsVector, SameSizes};
 
 use crate::rows;
 use pim_io::NoMemory;
@@ -26,6 +27,9 @@ impl Model for Tile {
 }
 
 impl Tile {
+    ghost use Rattle.std.specs.Borrow.{sem};
+    ghost use Rattle.pim_vectors.specs.TileLending.{LendsColumn};
+
     /// A tile of that many columns, and 64 rows for each word of a column, all zero. Takes memory for all columns at once.
     pub fn new(alloc: Global, columns: u32, words: usize) -> Result<Tile, NoMemory>
         requires { words ≤ 64 }
@@ -64,8 +68,35 @@ impl Tile {
         requires { k < self.now.columns }
         ensures value { result.now ≡ column_of self.now k }
         ensures long { length result.now ≡ self.now.words }
+        ensures lanes { (r : ℕ) → IsRow self.now r → lane result.now r ≡ slice_index_or (row_of self.now r) k false }
     {
         let start = k as usize * self.words;
         &self.buffer[start..start + self.words]
+    }
+
+    /// The words of a column, for writing.
+    pub fn column_mut(&mut self, k: u32) -> &mut [u64]
+        requires { k < self.old.columns }
+        ensures* lends { sem 𝓛 (LendsColumn self.entry k result) }
+        ensures value { result.now ≡ column_of self.old k }
+        ensures long { length result.now ≡ self.old.words }
+
+        // What the rows are then.
+        ensures rows { (column : List ℕ) → length column ≡ self.old.words → (r : ℕ) → IsRow self.old r
+            → row_of (with_column self.old k column) r ≡ slice_set (row_of self.old r) k (lane column r) }
+    {
+        let start = k as usize * self.words;
+        let end = start + self.words;
+        self.buffer.slice_mut(start..end)
+    }
+
+    /// Writes the words of a column.
+    pub fn put_column(&mut self, k: u32, words: &[u64])
+        requires column { k < self.old.columns }
+        requires long { length words.now ≡ self.old.words }
+        ensures rows { (r : ℕ) → IsRow self.old r → row_of self.new r ≡ slice_set (row_of self.old r) k (lane words.now r) }
+        ensures sizes { SameSizes self.old self.new }
+    {
+        rows::put_column(&mut self.buffer, self.words, k as usize, words);
     }
 }
