@@ -1,4 +1,4 @@
-//! The limits: names of 4,096 bytes and 1,048,576 AND nodes; and a chain of 100,000 covers, which is within them.
+//! The limits: names of 4,096 bytes, 1,048,576 outputs and AND nodes; and a chain of 100,000 covers, which is within them.
 use super::{compile, refuses};
 use pim_top::Status;
 use std::alloc::Global;
@@ -59,6 +59,24 @@ fn a_note_tells_the_first_bytes_of_a_long_word(rt: HostRuntime) -> Result<(), Fa
     Ok(())
 }
 
+/// An input that is so many outputs.
+fn many_outputs(alloc: Global, count: usize) -> Result<Vec<u8>, Fail> {
+    let mut bytes = Vec::from_slice(alloc, b".inputs a\n.outputs")?;
+    for _ in 0..count {
+        bytes.extend_from_slice(b" a")?;
+    }
+    bytes.push(b'\n')?;
+    Ok(bytes)
+}
+
+#[test]
+fn one_output_too_many(rt: HostRuntime) -> Result<(), Fail> {
+    let alloc = rt.alloc();
+    let bytes = many_outputs(alloc, 1_048_577)?;
+    let ending = compile(alloc, "1", &bytes, 1_048_576)?;
+    refuses(&rt, &ending, Status::TooLarge, "too large: outputs", alloc)
+}
+
 /// A cover of so many columns, all of one input, with as many rows of ones.
 fn wide_cover(alloc: Global, columns: usize) -> Result<Vec<u8>, Fail> {
     let mut bytes = Vec::from_slice(alloc, b".inputs a\n.outputs f\n.names")?;
@@ -82,8 +100,8 @@ fn one_node_too_many(rt: HostRuntime) -> Result<(), Fail> {
     refuses(&rt, &ending, Status::TooLarge, "too large: nodes", alloc)
 }
 
-/// A literal of 1,024 columns takes 2,045 cells a row, since a chain's last node is wanted plain alone and each other both
-/// ways; the joins take 2,046, and the input and its complement one each.
+/// A row takes 2,045 cells: its 1,023 nodes are wanted plain, and all of them but the last complemented too. The joins take
+/// 2,046, all of them both ways, and the input and its complement one each.
 #[test]
 fn just_few_enough_nodes(rt: HostRuntime) -> Result<(), Fail> {
     let alloc = rt.alloc();

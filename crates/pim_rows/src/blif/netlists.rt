@@ -33,13 +33,27 @@ fn constants(rt: HostRuntime) -> Result<(), Fail> {
 }
 
 #[test]
-fn constants_by_their_off_set(rt: HostRuntime) -> Result<(), Fail> {
+fn constants_by_other_covers(rt: HostRuntime) -> Result<(), Fail> {
     compiles(
         &rt,
         rt.alloc(),
         "2",
         b".outputs f\n.names f\n0\n",
         b"pim 1\ntarget magic\ncells 2\noutput 1 f\ncycles 2\ninit 0 1\nnot 1 0\nend\n",
+    )?;
+    compiles(
+        &rt,
+        rt.alloc(),
+        "3",
+        b".inputs a\n.outputs f\n.names a f\n",
+        b"pim 1\ntarget magic\ncells 3\ninput 0 a\noutput 2 f\ncycles 2\ninit 1 2\nnot 2 1\nend\n",
+    )?;
+    compiles(
+        &rt,
+        rt.alloc(),
+        "2",
+        b".inputs a\n.outputs f\n.names a f\n- 1\n",
+        b"pim 1\ntarget magic\ncells 2\ninput 0 a\noutput 1 f\ncycles 1\ninit 1\nend\n",
     )
 }
 
