@@ -1,4 +1,6 @@
 //! BLIF from end to end: netlists with their programs, how lines are cut, every fault with its note, and the limits.
+ghost use Rattle.std.specs.Prelude.{◌<◌};
+
 mod directives;
 mod faults;
 mod limits;
@@ -13,7 +15,9 @@ use std::process::Abort;
 use std::test::Fail;
 
 /// Compiles a file to MAGIC with at most so many cells, where it comes in pieces of so many bytes.
-fn compile(alloc: Global, cells: &str, input: &[u8], piece: usize) -> Result<Ending, Fail> {
+fn compile(alloc: Global, cells: &str, input: &[u8], piece: usize) -> Result<Ending, Fail>
+    requires { 0 < piece }
+{
     call(
         alloc,
         &["compile", "--target", "magic", "--cells", cells],

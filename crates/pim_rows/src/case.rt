@@ -1,4 +1,6 @@
 //! One call of the tool over memory, and what it has to answer.
+ghost use Rattle.std.specs.Prelude.{◌<◌};
+
 use pim_io::{MemSink, MemSource};
 use pim_top::{Status, pim};
 use std::alloc::Global;
@@ -40,7 +42,9 @@ pub struct Ending {
 }
 
 /// Makes the call with ample memory and room, where the input comes in pieces of so many bytes.
-pub fn call(alloc: Global, words: &[&str], input: &[u8], piece: usize) -> Result<Ending, Fail> {
+pub fn call(alloc: Global, words: &[&str], input: &[u8], piece: usize) -> Result<Ending, Fail>
+    requires { 0 < piece }
+{
     let words = words_of(alloc, words)?;
     let mut program = MemSource::new(alloc, b"", 1, &[])?;
     let mut input = MemSource::new(alloc, input, piece, &[])?;

@@ -77,8 +77,8 @@ fn one_output_too_many(rt: HostRuntime) -> Result<(), Fail> {
     refuses(&rt, &ending, Status::TooLarge, "too large: outputs", alloc)
 }
 
-/// A cover of so many columns, all of one input, with as many rows of ones.
-fn wide_cover(alloc: Global, columns: usize) -> Result<Vec<u8>, Fail> {
+/// A cover of so many columns, all of one input, with so many rows of ones.
+fn wide_cover(alloc: Global, columns: usize, rows: usize) -> Result<Vec<u8>, Fail> {
     let mut bytes = Vec::from_slice(alloc, b".inputs a\n.outputs f\n.names")?;
     for _ in 0..columns {
         bytes.extend_from_slice(b" a")?;
@@ -86,16 +86,26 @@ fn wide_cover(alloc: Global, columns: usize) -> Result<Vec<u8>, Fail> {
     bytes.extend_from_slice(b" f\n")?;
     let mut row = vec![in alloc; b'1'; columns]?;
     row.extend_from_slice(b" 1\n")?;
-    for _ in 0..columns {
+    for _ in 0..rows {
         bytes.extend_from_slice(&row)?;
     }
     Ok(bytes)
 }
 
+/// Its 4,096 nodes take a cell each, and all but the last one more; the input and its complement take one each.
+#[test]
+fn a_pattern_has_any_length(rt: HostRuntime) -> Result<(), Fail> {
+    let alloc = rt.alloc();
+    let bytes = wide_cover(alloc, 4_097, 1)?;
+    let ending = compile(alloc, "1", &bytes, 4_096)?;
+    let text = "too few cells: needed 8193";
+    refuses(&rt, &ending, Status::TooFewCells, text, alloc)
+}
+
 #[test]
 fn one_node_too_many(rt: HostRuntime) -> Result<(), Fail> {
     let alloc = rt.alloc();
-    let bytes = wide_cover(alloc, 1_025)?;
+    let bytes = wide_cover(alloc, 1_025, 1_025)?;
     let ending = compile(alloc, "1", &bytes, 1_048_576)?;
     refuses(&rt, &ending, Status::TooLarge, "too large: nodes", alloc)
 }
@@ -105,7 +115,7 @@ fn one_node_too_many(rt: HostRuntime) -> Result<(), Fail> {
 #[test]
 fn just_few_enough_nodes(rt: HostRuntime) -> Result<(), Fail> {
     let alloc = rt.alloc();
-    let bytes = wide_cover(alloc, 1_024)?;
+    let bytes = wide_cover(alloc, 1_024, 1_024)?;
     let ending = compile(alloc, "1", &bytes, 1_048_576)?;
     let text = "too few cells: needed 2096128";
     refuses(&rt, &ending, Status::TooFewCells, text, alloc)
