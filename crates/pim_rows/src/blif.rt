@@ -41,13 +41,13 @@ fn compiles(
     Ok(())
 }
 
-/// A file that ends with this status and this line in the notes, and with nothing written.
+/// A call that ended with this status and this line in the notes, and with nothing written.
 fn refuses(
     rt: &impl Abort,
+    alloc: Global,
     ending: &Ending,
     status: Status,
     text: &str,
-    alloc: Global,
 ) -> Result<(), Fail> {
     let note = format!(in alloc; "pim: {text}\n")?;
     assert_eq!(rt; ending.status, status, "where {text} is wanted");
@@ -61,7 +61,7 @@ fn are_bad(rt: &impl Abort, alloc: Global, cases: &[(&[u8], &str)]) -> Result<()
     for (input, detail) in cases {
         let ending = compile(alloc, "9", input, 7)?;
         let text = format!(in alloc; "bad input: {detail}")?;
-        refuses(rt, &ending, Status::BadInput, &text, alloc)?;
+        refuses(rt, alloc, &ending, Status::BadInput, &text)?;
     }
     Ok(())
 }

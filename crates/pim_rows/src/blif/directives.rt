@@ -46,7 +46,7 @@ fn a_word_that_is_passed_over_ends_a_cover(rt: HostRuntime) -> Result<(), Fail> 
         let input = format!(in alloc; ".names f\n{word} f 1.0\n1\n")?;
         let ending = compile(alloc, "9", input.as_bytes(), 7)?;
         let text = "bad input: blif line 3: syntax";
-        refuses(&rt, &ending, Status::BadInput, text, alloc)?;
+        refuses(&rt, alloc, &ending, Status::BadInput, text)?;
     }
     Ok(())
 }
@@ -70,7 +70,7 @@ fn other_words_are_unsupported(rt: HostRuntime) -> Result<(), Fail> {
         let input = format!(in alloc; ".inputs x\n {word} x f\n")?;
         let ending = compile(alloc, "9", input.as_bytes(), 7)?;
         let text = format!(in alloc; "bad input: blif line 2: unsupported {word}")?;
-        refuses(&rt, &ending, Status::BadInput, &text, alloc)?;
+        refuses(&rt, alloc, &ending, Status::BadInput, &text)?;
     }
     Ok(())
 }

@@ -27,7 +27,7 @@ fn the_length_of_a_name(rt: HostRuntime) -> Result<(), Fail> {
         assert_eq!(rt; ending.status, Status::Done, "behind {before}");
         let longer = with_long_word(alloc, before.as_bytes(), 4_097, b"\n")?;
         let ending = compile(alloc, "9", &longer, 4_096)?;
-        refuses(&rt, &ending, Status::TooLarge, "too large: name", alloc)?;
+        refuses(&rt, alloc, &ending, Status::TooLarge, "too large: name")?;
     }
     Ok(())
 }
@@ -74,7 +74,7 @@ fn one_output_too_many(rt: HostRuntime) -> Result<(), Fail> {
     let alloc = rt.alloc();
     let bytes = many_outputs(alloc, 1_048_577)?;
     let ending = compile(alloc, "1", &bytes, 1_048_576)?;
-    refuses(&rt, &ending, Status::TooLarge, "too large: outputs", alloc)
+    refuses(&rt, alloc, &ending, Status::TooLarge, "too large: outputs")
 }
 
 /// A cover of so many columns, all of one input, with so many rows of ones.
@@ -99,7 +99,7 @@ fn a_pattern_has_any_length(rt: HostRuntime) -> Result<(), Fail> {
     let bytes = wide_cover(alloc, 4_097, 1)?;
     let ending = compile(alloc, "1", &bytes, 4_096)?;
     let text = "too few cells: needed 8193";
-    refuses(&rt, &ending, Status::TooFewCells, text, alloc)
+    refuses(&rt, alloc, &ending, Status::TooFewCells, text)
 }
 
 #[test]
@@ -107,7 +107,7 @@ fn one_node_too_many(rt: HostRuntime) -> Result<(), Fail> {
     let alloc = rt.alloc();
     let bytes = wide_cover(alloc, 1_025, 1_025)?;
     let ending = compile(alloc, "1", &bytes, 1_048_576)?;
-    refuses(&rt, &ending, Status::TooLarge, "too large: nodes", alloc)
+    refuses(&rt, alloc, &ending, Status::TooLarge, "too large: nodes")
 }
 
 /// A row takes 2,045 cells: its 1,023 nodes are wanted plain, and all of them but the last complemented too. The joins take
@@ -118,7 +118,7 @@ fn just_few_enough_nodes(rt: HostRuntime) -> Result<(), Fail> {
     let bytes = wide_cover(alloc, 1_024, 1_024)?;
     let ending = compile(alloc, "1", &bytes, 1_048_576)?;
     let text = "too few cells: needed 2096128";
-    refuses(&rt, &ending, Status::TooFewCells, text, alloc)
+    refuses(&rt, alloc, &ending, Status::TooFewCells, text)
 }
 
 /// Buffers from `x0` to `x100000`, the last of them first, where the buffer of `x1` reads a signal of this name.

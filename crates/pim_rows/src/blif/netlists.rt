@@ -102,7 +102,7 @@ fn one_cell_too_few(rt: HostRuntime) -> Result<(), Fail> {
         ("30", ADDER, "too few cells: needed 31"),
     ] {
         let ending = compile(alloc, cells, input, 7)?;
-        refuses(&rt, &ending, Status::TooFewCells, text, alloc)?;
+        refuses(&rt, alloc, &ending, Status::TooFewCells, text)?;
     }
     Ok(())
 }
