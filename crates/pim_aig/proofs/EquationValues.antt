@@ -2,12 +2,12 @@
 use Rattle.std.proofs.Common.{◌≡◌, ◌≢◌, ℕ, suc, ◌+◌, ◌*◌, ◌<◌, ◌≤◌, Bool, true, false, cond, eqb, List, [], ◌∷◌, length, get_or, map, Option, Some, None, All, slice_get, refl, sym, ◌∙◌, ap, subst, inl, inr, arith}
 use Rattle.std.proofs.lemmas.Bool.{cases_eq, cases_lt}
 use Rattle.std.proofs.lemmas.List.Elements.{All-head, All-tail}
+use Rattle.std.proofs.lemmas.Option.{slice_get_cases}
 use Rattle.pim_net.specs.Covers.{CoverView}
 use Rattle.pim_net.specs.Drivers.{sigs}
 use Rattle.pim_net.specs.Values.{cover_value}
 use Rattle.pim_net.specs.WellFormed.{IsReady, IsReadyOrder, columns}
 use Rattle.pim_net.specs.declared.parts.Equation.{Equation}
-use Rattle.pim_net.proofs.Trails.{equation_within}
 use Rattle.pim_aig.specs.Chains.{chain, rows_from, cover_from}
 use Rattle.pim_aig.specs.Flat.{equation_from, equations_from}
 use Rattle.pim_aig.specs.Literals.{complement}
@@ -78,6 +78,10 @@ equation-valued values base inputs equations topo i lits ands e len h ready law 
             ap (literal_value new) (put_other lits e.sig s built.lit other) ∙ (literal-extends base ands built.ands (lits s) w.0 (omega arith) ∙ h.valued s (earlier inputs equations topo i s e.sig at other after))
       ];
     }
+
+-- there is an equation of each number below their count
+equation_within : (es : List Equation) (k : ℕ) → k < length es → (e : Equation) × (slice_get es k ≡ Some e)
+equation_within es k within = elim (slice_get_cases es k).1 [ inl w ↦ (w.0, w.2) | inr past ↦ absurd (omega (arith, past.0)) ]
 
 -- the equations of a list have these values
 pub record AreCovered (values : ℕ → Bool) (equations : List Equation) : Type 0 where

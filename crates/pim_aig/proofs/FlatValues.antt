@@ -7,7 +7,7 @@ use Rattle.std.proofs.lemmas.List.Elements.{All-head, All-tail, Contains-append_
 use Rattle.std.proofs.lemmas.List.FromFn.{get_or-range_with_len, length-range_with_len}
 use Rattle.std.proofs.lemmas.List.Sorted.{All-permutation, Contains-permutation}
 use Rattle.pim_net.specs.Drivers.{sigs, driven}
-use Rattle.pim_net.specs.Laws.{HasValues, HasCoverValues}
+use Rattle.pim_net.specs.Laws.{HasValues, HasInputValues, HasCoverValues}
 use Rattle.pim_net.specs.Netlist.{NetView}
 use Rattle.pim_net.specs.Values.{outs, signed}
 use Rattle.pim_net.specs.WellFormed.{IsNet, IsReady}
@@ -92,8 +92,8 @@ All-right P [] ys h = h
 All-right P (x ∷ xs) ys h = All-right P xs ys (All-tail P x (xs ++ ys) h)
 
 -- the flat graph has the netlist's outputs
-pub flat-values : (net : NetView) → IsNet net → HasValues net → HasCoverValues net → (bits : List Bool) → length bits ≡ length net.inputs → map (aval (flat net) bits) (flat net).outputs ≡ outs net bits
-flat-values net checked driven_ones covers bits whole =
+pub flat-values : (net : NetView) → IsNet net → HasValues net → HasInputValues net → HasCoverValues net → (bits : List Bool) → length bits ≡ length net.inputs → map (aval (flat net) bits) (flat net).outputs ≡ outs net bits
+flat-values net checked driven_ones inputs_same covers bits whole =
     let inputs = net.inputs in
     let es = net.equations in
     let topo = net.topo in
@@ -104,7 +104,7 @@ flat-values net checked driven_ones covers bits whole =
     let covered : AreCovered values es = record {
       law = λ k e low at. let sig : get_or (sigs es) k 0 ≡ e.sig = sig_at es k e at in (ap values (sym sig) ∙ equation-bit net bits k e driven_ones covers whole low at, sig);
     } in
-    let by_input : (j : ℕ) → j < length inputs → values (get_or inputs j 0) ≡ get_or bits (0 + j) false = λ j h. let e : j ≡ 0 + j = omega arith in input-bit net bits j checked.well_formed.once whole h ∙ ap (λ (n : ℕ). get_or bits n false) e in
+    let by_input : (j : ℕ) → j < length inputs → values (get_or inputs j 0) ≡ get_or bits (0 + j) false = λ j h. let e : j ≡ 0 + j = omega arith in input-bit net bits j inputs_same whole h ∙ ap (λ (n : ℕ). get_or bits n false) e in
     let start : IsValued values base inputs es topo 0 lits [] = record {
       first = refl;
       range = inputs-range (1 + length inputs + 0) inputs 0 no_literals (omega arith) (λ s. omega arith);

@@ -1,3 +1,4 @@
+pub mod FlatCounts
 pub mod ChainValues
 pub mod CoverValues
 pub mod EquationValues
@@ -6,3 +7,4 @@ pub mod Linking
 pub mod Rows
 pub mod SignalValues
 pub mod TableSteps
+mod Examples

@@ -1,54 +1,23 @@
 -- The values of a netlist's signals: those of the inputs are the bits, and those of equations are their covers'.
-use Rattle.std.proofs.Common.{◌≡◌, ◌≢◌, ℕ, zero, suc, ◌<◌, ◌≤◌, Bool, true, false, List, [], ◌∷◌, ◌++◌, length, get_or, map, Option, Some, None, AllPairs, Contains, slice_get, is_some, option_map, refl, sym, ◌∙◌, ap, ⊎_elim, arith}
+use Rattle.std.proofs.Common.{◌≡◌, ℕ, zero, suc, ◌<◌, Bool, true, false, List, [], ◌∷◌, length, get_or, map, Option, Some, None, Contains, slice_get, is_some, option_map, refl, sym, ◌∙◌, ap, arith}
 use Rattle.std.specs.Prelude.{unwrap_or}
-use Rattle.std.proofs.lemmas.Bool.{cases_lt}
-use Rattle.std.proofs.lemmas.List.{get_or_append_left, length-map, length-append}
+use Rattle.std.proofs.lemmas.List.{length-map}
 use Rattle.std.proofs.lemmas.List.Elements.{Contains-append_right}
 use Rattle.std.proofs.lemmas.Option.{slice_get-get_or}
-use Rattle.pim_net.specs.Drivers.{place, sigs, driven, driver_by}
-use Rattle.pim_net.specs.Laws.{HasValues, HasCoverValues}
+use Rattle.pim_net.specs.Drivers.{sigs}
+use Rattle.pim_net.specs.Laws.{HasValues, HasInputValues, HasCoverValues}
 use Rattle.pim_net.specs.Netlist.{NetView}
-use Rattle.pim_net.specs.Values.{val, value, all_values, cover_value, driver_value, equation_value}
+use Rattle.pim_net.specs.Values.{value, all_values, cover_value, equation_value}
 use Rattle.pim_net.specs.declared.parts.Equation.{Equation}
-use Rattle.pim_net.proofs.Repeats.{place_is, place_has}
 
 -- the value of a signal, and false where it has none
 abbrev pub bit : NetView → List Bool → ℕ → Bool
 bit net bits s = unwrap_or (value net bits s) false
 
--- where all drivers are different, an input's signal has the input's place
-placed : (inputs : List ℕ) (es : List Equation) (j : ℕ) → AllPairs ◌≢◌ (driven inputs es) → j < length inputs → place (get_or inputs j 0) inputs ≡ Some j
-placed inputs es j apart within =
-    let s = get_or inputs j 0 in
-    let long = length-append inputs (sigs es) in
-    let at : (i : ℕ) → i < length inputs → get_or (inputs ++ sigs es) i 0 ≡ get_or inputs i 0 = λ i h. get_or_append_left inputs (sigs es) 0 i h in
-    let only : (i : ℕ) → place s inputs ≡ Some i → i ≡ j = λ i h.
-    let w = place_is s inputs i h in
-    ⊎_elim
-    (λ (before : i < j). absurd (apart i j 0 before (omega (arith, long)) (at i w.0 ∙ (w.1 ∙ sym (at j within)))))
-    (λ (from : j ≤ i). ⊎_elim
-    (λ (after : j < i). absurd (apart j i 0 after (omega (arith, long, w.0)) (at j within ∙ (sym w.1 ∙ sym (at i w.0)))))
-    (λ (back : i ≤ j). let e : i ≡ j = omega arith in e)
-    (cases_lt j i))
-    (cases_lt i j) in
-    by (place s inputs) only (place_has inputs j within)
-  where
-    by : (p : Option ℕ) → ((i : ℕ) → p ≡ Some i → i ≡ j) → is_some p ≡ true → p ≡ Some j
-    by None only has = cc
-    by (Some i) only has = ap Some (only i refl)
-
--- an input's driver gives the input's bit
-by_place : (below : ℕ → Option Bool) (es : List Equation) (bits : List Bool) (p q : Option ℕ) (j : ℕ) → p ≡ Some j → driver_value below es bits (driver_by p q) ≡ slice_get bits j
-by_place below es bits None q j h = cc
-by_place below es bits (Some i) q j h = let same : i ≡ j = cc in ap (slice_get bits) same
-
 -- the value of an input's signal is the input's bit
-pub input-bit : (net : NetView) (bits : List Bool) (j : ℕ) → AllPairs ◌≢◌ (driven net.inputs net.equations) → length bits ≡ length net.inputs → j < length net.inputs → bit net bits (get_or net.inputs j 0) ≡ get_or bits j false
-input-bit net bits j apart whole within =
-    let below = λ (c : ℕ). val net.inputs net.equations bits (length net.equations) c in
-    let s = get_or net.inputs j 0 in
-    let by : value net bits s ≡ slice_get bits j = by_place below net.equations bits (place s net.inputs) (place s (sigs net.equations)) j (placed net.inputs net.equations j apart within) in
-    ap (λ (o : Option Bool). unwrap_or o false) by ∙ ap (λ (o : Option Bool). unwrap_or o false) (slice_get-get_or bits j false (omega arith))
+pub input-bit : (net : NetView) (bits : List Bool) (j : ℕ) → HasInputValues net → length bits ≡ length net.inputs → j < length net.inputs → bit net bits (get_or net.inputs j 0) ≡ get_or bits j false
+input-bit net bits j inputs whole within =
+    ap (λ (o : Option Bool). unwrap_or o false) (inputs bits j whole within) ∙ ap (λ (o : Option Bool). unwrap_or o false) (slice_get-get_or bits j false (omega arith))
 
 -- values that are all there are the list of the values
 all_there : (f : ℕ → Option Bool) (cs : List ℕ) → is_some (all_values (map f cs)) ≡ true → all_values (map f cs) ≡ Some (map (λ c. unwrap_or (f c) false) cs)

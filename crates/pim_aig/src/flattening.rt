@@ -4,7 +4,7 @@ ghost use Rattle.pim_net.specs.Values.{outs};
 ghost use Rattle.pim_net.specs.WellFormed.{IsNet};
 ghost use Rattle.pim_aig.specs.Chains.{literals_of};
 ghost use Rattle.pim_aig.specs.Faults.{Says};
-ghost use Rattle.pim_aig.specs.Flat.{equation_from, equations_from, flat, inputs_from, no_literals, output_literal};
+ghost use Rattle.pim_aig.specs.Flat.{ands, equation_from, equations_from, flat, inputs_from, no_literals, output_literal};
 ghost use Rattle.pim_aig.specs.Graph.{Grows, IsOfFirst, nodes};
 ghost use Rattle.pim_aig.specs.Values.{aval};
 
@@ -113,7 +113,8 @@ pub fn flatten(alloc: Global, net: &Net) -> Result<Aig, FlatFault>
     ensures flat { IfOk result (λ aig. aig ≡ flat net.now) }
     ensures values { IfOk result (λ aig. (bits : List Bool) → length bits ≡ length net.now.inputs
         → map (aval aig bits) aig.outputs ≡ outs net.now bits) }
-    ensures fault { IfErr result (λ fault. Says fault (length (flat net.now).ands)) }
+    ensures accepted { OnOk result (ands net.now ≤ 1048576) }
+    ensures fault { IfErr result (λ fault. Says fault (ands net.now)) }
 {
     net.has_values();
     let mut aig = Aig::new(alloc, net.inputs().len() as u32);

@@ -1,6 +1,6 @@
 -- The header line of an AIGER file: its tag, and the numbers M I L O A (AIGER 20071012, "ASCII format" and
 -- "Binary format").
-use Rattle.std.specs.Prelude.{ℕ, ◌+◌, ◌==◌, ◌<◌, ◌≤◌, nat_eq, not, nat_lt, nat_le, List, codes, Result, Ok, Err, Bool, if◌then◌else◌}
+use Rattle.std.specs.Prelude.{ℕ, ◌+◌, ◌==◌, ◌<◌, ◌≤◌, ◌||◌, nat_eq, not, nat_lt, nat_le, List, codes, Result, Ok, Err, Bool, if◌then◌else◌}
 use Rattle.std.specs.List.{starts_with}
 use Rattle.std.specs.Option.{ok_or}
 use Rattle.pim_io.specs.Words.{words}
@@ -23,6 +23,10 @@ tag_of Binary = codes "aig "
 -- the bytes begin with the tag of this form
 abbrev pub has_tag : Form → List ℕ → Bool
 has_tag form bytes = starts_with nat_eq bytes (tag_of form)
+
+-- the bytes begin with the tag of one of the forms
+abbrev pub is_aiger : List ℕ → Bool
+is_aiger bytes = has_tag Text bytes || has_tag Binary bytes
 
 -- the greatest variable may be above the variables that are in use, and in the binary form it may not
 abbrev pub is_greatest : Form → ℕ → ℕ → Bool

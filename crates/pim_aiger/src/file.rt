@@ -1,7 +1,7 @@
 ghost use Rattle.std.specs.Prelude.{◌≡◌, ◌<◌, ◌≤◌, ◌⊎◌, length, All, IfOk, IsTrue};
 ghost use Rattle.pim_net.specs.Netlist.{draft_of};
 ghost use Rattle.pim_aiger.specs.Steps.{Gives};
-ghost use Rattle.pim_aiger.specs.HeaderLine.{has_tag, IsWithin};
+ghost use Rattle.pim_aiger.specs.HeaderLine.{has_tag, is_aiger, IsWithin};
 ghost use Rattle.pim_aiger.specs.Files.{IsGates, signal_labels, judged_net, closing, text_whole, binary_whole, text_net_of, binary_net_of, net_of};
 
 use crate::fault::AigerFault;
@@ -45,6 +45,13 @@ pub fn read(alloc: Global, bytes: &[u8]) -> Result<Net, AigerFault>
     } else {
         read_text(alloc, bytes)
     }
+}
+
+/// Whether bytes begin with the tag of one of the forms, `aag ` or `aig `. Constant time.
+pub fn is_aiger(bytes: &[u8]) -> bool
+    ensures { result ≡ is_aiger bytes.now }
+{
+    has_tag(Form::Text, bytes) || has_tag(Form::Binary, bytes)
 }
 
 /// Whether bytes begin with the tag of a form.

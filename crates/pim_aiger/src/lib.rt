@@ -15,7 +15,7 @@ mod symbol;
 mod words;
 
 pub use fault::AigerFault;
-pub use file::{read, read_binary, read_text};
+pub use file::{is_aiger, read, read_binary, read_text};
 
 #[cfg(test)]
 mod tests;

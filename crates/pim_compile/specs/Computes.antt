@@ -7,7 +7,7 @@ use Rattle.pim_isa.specs.Validity.{has}
 use Rattle.pim_isa.specs.declared.instr.Instr.{Instr}
 use Rattle.pim_net.specs.Netlist.{NetView}
 use Rattle.pim_net.specs.Values.{outs}
-use Rattle.pim_simpler.specs.Wide.{input_ports, labels_of}
+use Rattle.pim_isa.specs.PortLists.{input_ports, labels_of}
 
 -- the inputs stand in the first cells, with their labels, and no instruction writes them; the outputs have their labels;
 -- from every row that begins with the inputs' bits, whatever its other cells hold, the output cells end with the bits of

@@ -1,9 +1,19 @@
-//! The program file: the text that a program is written as.
+//! The program file: the text that a program is written as, and read from.
 #![tactic(auto)]
 
+mod fault;
+mod fields;
+mod instrs;
+mod kept;
+mod lines;
+mod parsing;
 mod printing;
+mod reader;
+mod section;
 mod text;
 
+pub use fault::FileFault;
+pub use parsing::{parse, parse_text};
 pub use printing::print;
 use text::Text;
 

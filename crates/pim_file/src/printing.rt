@@ -1,4 +1,6 @@
-ghost use Rattle.std.specs.Prelude.{◌≡◌, [], ◌∷◌, ◌++◌, length, OnOk, IfOk, codes, decimal};
+ghost use Rattle.std.specs.Prelude.{◌≡◌, ℕ, ◌<◌, [], ◌∷◌, ◌++◌, length, take, OnOk, IfOk, Ok, Err, codes, decimal};
+ghost use Rattle.pim_file.specs.declared.fault.FileFault.TheVariants as faults;
+ghost use Rattle.pim_file.specs.ProgramFile.{parse1_of};
 ghost use Rattle.pim_file.specs.Text.{head_text, instr_text, instrs_text, nor_text, operand_text, port_text, ports_text, target_word, text as text_of};
 
 use crate::Text;
@@ -103,7 +105,11 @@ fn push_instrs(text: &mut Text, instrs: &[Instr]) -> Result<(), NoMemory>
 
 /// The text of a program, form 1. Linear in the program.
 pub fn print(alloc: Global, program: &Program) -> Result<Vec<u8>, NoMemory>
-    ensures { IfOk result (λ bytes. bytes.items ≡ text_of program.now) }
+    ensures text { IfOk result (λ bytes. bytes.items ≡ text_of program.now) }
+
+    // The text is read as the program again, and a front of it as cut off.
+    ensures again { IfOk result (λ bytes. parse1_of bytes.items ≡ Ok program.now) }
+    ensures cut { IfOk result (λ bytes. (k : ℕ) → k < length bytes.items → parse1_of (take k bytes.items) ≡ Err faults.Truncated) }
 {
     let mut text = Text::new(alloc);
     push_head(&mut text, program.target(), program.cells())?;

@@ -1,4 +1,5 @@
 mod Examples
+pub mod Orderings
 pub mod Placing
 pub mod ReadLemmas
 pub mod StableSorts

@@ -12,7 +12,7 @@ use Rattle.pim_graph.proofs.UsageSteps.{All-falling}
 use Rattle.pim_graph.proofs.Visits.{AreBelow, ReadBelow}
 use Rattle.pim_graph.proofs.Wholes.{has-push_same, has-push_other}
 
-AreBelow-All : (n : ℕ) (xs : List ℕ) → All (λ x. x < n) xs → AreBelow n xs
+pub AreBelow-All : (n : ℕ) (xs : List ℕ) → All (λ x. x < n) xs → AreBelow n xs
 AreBelow-All n [] h = tt
 AreBelow-All n (x ∷ xs) h = (h 0 x (omega arith), AreBelow-All n xs (λ k d l. h (suc k) d (omega arith)))
 

@@ -1,6 +1,7 @@
 ghost use Rattle.std.specs.Prelude.{◌≡◌, IfOk};
 ghost use Rattle.pim_graph.specs.Graphs.{IsGraph};
 ghost use Rattle.pim_graph.specs.Orders.{order};
+ghost use Rattle.pim_graph.specs.Peaks.{IsPlaced};
 
 use crate::Graph;
 use crate::falling::sort_falling;
@@ -13,7 +14,8 @@ use std::alloc::Global;
 /// at each gate its children, by falling usage, those of one usage in their order. Linear in the gates, but for
 /// sorting n roots, which takes n log n.
 pub fn order(alloc: Global, graph: &Graph) -> Result<Vec<u32>, NoMemory>
-    ensures { IfOk result (λ gates. gates.items ≡ order graph.now) }
+    ensures order { IfOk result (λ gates. gates.items ≡ order graph.now) }
+    ensures placed { IfOk result (λ gates. IsPlaced graph.now gates.items) }
 {
     let usage = usage(alloc, graph)?;
     let mut roots = Vec::from_slice(alloc, graph.roots())?;

@@ -18,10 +18,9 @@ fn a_gate_and_what_it_reads(rt: HostRuntime) -> Result<(), Fail> {
         usage(rt.alloc(), &graph)?.as_slice(),
         [1, 1, 3, 3, 1].as_slice()
     );
-    assert_eq!(rt;
-        order(rt.alloc(), &graph)?.as_slice(),
-        [0, 1, 2, 3, 4].as_slice()
-    );
+    let gates = order(rt.alloc(), &graph)?;
+    assert_eq!(rt; gates.as_slice(), [0, 1, 2, 3, 4].as_slice());
+    assert_eq!(rt; peak(rt.alloc(), &graph, &gates)?, 3);
     assert_eq!(rt; peak(rt.alloc(), &graph, &[])?, 0);
     assert_eq!(rt; graph.roots(), [4, 3].as_slice());
     assert_eq!(rt; graph.children(d), [1, 2].as_slice());

@@ -1,4 +1,6 @@
+pub mod Bits
 pub mod Codes
+pub mod Lanes
 pub mod Lines
 pub mod Memory
 pub mod Names

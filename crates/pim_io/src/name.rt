@@ -28,6 +28,7 @@ impl Name {
         requires some { 0 < length bytes.now }
         requires short { length bytes.now ≤ 4096 }
         ensures value { IfOk result (λ name. name ≡ label bytes.now) }
+        ensures labels { IfOk result IsLabel }
         ensures kept { IfOk result (λ name. IsLabel bytes.now → name ≡ bytes.now) }
     {
         let bytes = shown(alloc, bytes)?;

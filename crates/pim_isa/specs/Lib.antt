@@ -1,5 +1,6 @@
 pub mod Touches
 pub mod Programs
+pub mod PortLists
 pub mod Validity
 pub mod Sound
 pub mod Drafts

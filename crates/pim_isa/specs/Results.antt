@@ -1,5 +1,5 @@
 -- What a program gives for a list of input bits.
-use Rattle.std.specs.Prelude.{◌≡◌, ℕ, ◌==◌, ◌<◌, Bool, true, false, List, [], ◌∷◌, length, map, replicate, slice_index, slice_set}
+use Rattle.std.specs.Prelude.{◌≡◌, ℕ, ◌<◌, Bool, true, false, List, [], ◌∷◌, length, map, replicate, slice_index, slice_set}
 use Rattle.pim_isa.specs.declared.target.Fill.{Fill}
 use Rattle.pim_isa.specs.declared.target.Fill.TheVariants.{Zeros, Ones}
 use Rattle.pim_isa.specs.declared.port.Port.{Port}
@@ -12,10 +12,6 @@ use Rattle.pim_isa.specs.Steps.{bit, exec}
 abbrev pub fill_bit : Fill → Bool
 fill_bit Zeros = false
 fill_bit Ones = true
-
--- the bits that a line of the characters 0 and 1 stands for
-abbrev pub bits_of : List ℕ → List Bool
-bits_of line = map (λ b. b == 49) line
 
 -- the bits put into the cells of the inputs, in order
 abbrev pub with_inputs : List Port → List Bool → List Bool → List Bool

@@ -1,6 +1,7 @@
 ghost use Rattle.std.specs.Prelude.{◌≡◌, ◌<◌, ◌≤◌, ◌↔◌, Bool, List, length, slice_get, IsTrue, IsNone, IfOk};
 ghost use Rattle.pim_isa.specs.Steps.{exec_k};
-ghost use Rattle.pim_isa.specs.Results.{load, fill_bit, bits_of, IsLoaded};
+ghost use Rattle.pim_io.specs.Bits.{bits_of};
+ghost use Rattle.pim_isa.specs.Results.{load, fill_bit, IsLoaded};
 ghost use Rattle.pim_isa.specs.Machines.{next_of};
 
 use crate::program::Program;

@@ -1,4 +1,5 @@
-ghost use Rattle.std.specs.Prelude.{◌≡◌, ◌+◌, ◌<◌, ◌^◌, length, Some, None, IsOk, IfOk, IfErr, OnOk};
+ghost use Rattle.std.specs.Prelude.{◌≡◌, ◌+◌, ◌<◌, ◌^◌, false, length, Some, None, IsOk, IfOk, IfErr, OnOk};
+ghost use Rattle.pim_isa.specs.Primed.{IsPrimed, IsPrimedFrom};
 ghost use Rattle.pim_isa.specs.Validity.{fault_of};
 ghost use Rattle.pim_isa.specs.Sound.{IsSound, IsProgram};
 
@@ -78,6 +79,15 @@ impl Program {
         })
     }
 
+    /// The law of primed programs, for those who make one: it computes nothing. A program that is primed read from the front,
+    /// with no cell ready at first, is primed at each place.
+    pub fn primed_from_front(&self)
+        ensures { IsPrimedFrom (λ _. false) self.now.instrs → IsPrimed self.now.instrs }
+    {
+        let _ = &self.instrs;
+    }
+
+    /// The machine that the program is made for.
     pub fn target(&self) -> Target
         ensures value { result ≡ self.now.target }
         ensures valid { IsProgram self.now }

@@ -2,7 +2,8 @@ ghost use Rattle.std.specs.Prelude.{◌≡◌, true, false, slice_set};
 ghost use Rattle.std.specs.List.{list_any};
 ghost use Rattle.pim_isa.specs.Touches.{operands};
 ghost use Rattle.pim_isa.specs.Steps.{bit, value, majority, set_ones, step};
-ghost use Rattle.pim_isa.specs.Results.{with_inputs, bits_of};
+ghost use Rattle.pim_io.specs.Bits.{bits_of};
+ghost use Rattle.pim_isa.specs.Results.{with_inputs};
 
 use crate::instr::{Ins, Instr, Operand};
 use crate::port::Port;

@@ -16,8 +16,8 @@ use Rattle.pim_isa.specs.Touches.{operands, operand_cells}
 use Rattle.pim_isa.specs.Validity.{has}
 use Rattle.pim_isa.specs.Steps.{bit, value, majority}
 use Rattle.pim_isa.specs.Results.{fill_bit}
-use Rattle.pim_lanes.specs.Lanes.{is_set, lane}
-use Rattle.pim_lanes.specs.Columns.{column_in, Stored}
+use Rattle.pim_io.specs.Lanes.{is_set, lane, column_in}
+use Rattle.pim_lanes.specs.Columns.{Stored}
 use Rattle.pim_lanes.specs.Banks.{BankView, column_of, column_at, row_of, IsRow, IsBuffer, SameFrame, FitsCells, place_of, fill_word}
 use Rattle.pim_lanes.proofs.BitLemmas.{is_set-zero}
 use Rattle.pim_lanes.proofs.RuleLemmas.{lane-ones}
@@ -119,6 +119,7 @@ nor_within b r t i fits = rw (length-row_of b r) (All-head (λ (c : ℕ). c < b.
 
 -- ---- rows of one bit over and over
 lane-zeros : (w r : ℕ) → lane (replicate w 0) r ≡ false
+unfolding lane
 lane-zeros w r =
     elim (cases_lt (r / 64) w) [
       | inl within ↦ ap (λ (n : ℕ). is_set n (r % 64)) (get_or-replicate w (r / 64) 0 0 within) ∙ is_set-zero (r % 64)

@@ -4,7 +4,7 @@ use Rattle.std.specs.Int.{bit_at, w64}
 use Rattle.std.proofs.lemmas.Nat.{or_lt}
 use Rattle.std.proofs.lemmas.Nat.Bits.{bit_at-lt, bit_at_and, bit_at_or, bit_at_not, bit_at_ones, bit_at-zero}
 use Rattle.pim_isa.specs.Steps.{majority}
-use Rattle.pim_lanes.specs.Lanes.{is_set}
+use Rattle.pim_io.specs.Lanes.{is_set}
 use Rattle.pim_lanes.specs.Rules.{complement, nor1_word, nor2_word, rm3_word}
 
 both_one : (x y : ℕ) → x < 2 → y < 2 → eqb (min x y) 1 ≡ (eqb x 1 && eqb y 1)
@@ -31,18 +31,23 @@ other_one (suc zero) p = refl
 other_one (suc (suc x)) p = absurd (omega arith)
 
 pub is_set-and : (a b i : ℕ) → is_set (bit_and a b) i ≡ (is_set a i && is_set b i)
+unfolding is_set
 is_set-and a b i = ap (λ n. eqb n 1) (bit_at_and a b i) ∙ both_one (bit_at a i) (bit_at b i) (bit_at-lt a i) (bit_at-lt b i)
 
 pub is_set-or : (a b i : ℕ) → is_set (bit_or a b) i ≡ (is_set a i || is_set b i)
+unfolding is_set
 is_set-or a b i = ap (λ n. eqb n 1) (bit_at_or a b i) ∙ some_one (bit_at a i) (bit_at b i) (bit_at-lt a i) (bit_at-lt b i)
 
 pub is_set-complement : (n i : ℕ) → n < 2 ^ 64 → i < 64 → is_set (complement n) i ≡ not (is_set n i)
+unfolding is_set
 is_set-complement n i small within = ap (λ m. eqb m 1) (bit_at_not w64 n i small within) ∙ other_one (bit_at n i) (bit_at-lt n i)
 
 pub is_set-ones : (i : ℕ) → i < 64 → is_set (2 ^ 64 - 1) i ≡ true
+unfolding is_set
 is_set-ones i within = ap (λ m. eqb m 1) (bit_at_ones 64 i within)
 
 pub is_set-zero : (i : ℕ) → is_set 0 i ≡ false
+unfolding is_set
 is_set-zero i = ap (λ m. eqb m 1) (bit_at-zero i)
 
 -- ---- the rules of the kernels on one bit

@@ -1,22 +1,25 @@
 -- Worked examples of the definitions, by computation.
 use Rattle.std.proofs.Common.{◌≡◌, true, false, [], ◌∷◌, refl}
 use Rattle.pim_isa.specs.declared.instr.Operand.TheVariants as operand
-use Rattle.pim_lanes.specs.Lanes.{is_set, lane}
+use Rattle.pim_io.specs.Lanes.{is_set, lane, column_in}
 use Rattle.pim_lanes.specs.Rules.{nor1_word, nor2_word, rm3_word}
-use Rattle.pim_lanes.specs.Columns.{column_in}
 use Rattle.pim_lanes.specs.Banks.{BankView, column_of, column_at, row_of, place_of}
 
 -- ---- lanes: 5 has the bits 0 and 2
 bit_two : is_set 5 2 ≡ true
+unfolding is_set
 bit_two = refl
 
 bit_one : is_set 5 1 ≡ false
+unfolding is_set
 bit_one = refl
 
 lane_of_the_second_word : lane (0 ∷ 5 ∷ []) 66 ≡ true
+unfolding lane is_set
 lane_of_the_second_word = refl
 
 lane_past_the_words : lane (5 ∷ []) 64 ≡ false
+unfolding lane is_set
 lane_past_the_words = refl
 
 -- ---- words: 12 is 1100, 10 is 1010, 6 is 0110
@@ -38,11 +41,11 @@ unfolding column_in
 second_column = refl
 
 first_row : row_of two_cells 0 ≡ true ∷ false ∷ []
-unfolding row_of column_in
+unfolding row_of column_in lane is_set
 first_row = refl
 
 third_row : row_of two_cells 2 ≡ true ∷ true ∷ []
-unfolding row_of column_in
+unfolding row_of column_in lane is_set
 third_row = refl
 
 zeros_column : column_of two_cells 2 ≡ 0 ∷ []

@@ -5,7 +5,7 @@ use Rattle.std.proofs.lemmas.Bool.{cases_lt}
 use Rattle.std.proofs.lemmas.List.{get_or-set_same, get_or-set_other, get_or-map, get_or_past, get_or-replicate, length-map}
 use Rattle.std.proofs.lemmas.Simd.{get_or-put_chunk_below, get_or-put_chunk_at, get_or-put_chunk_above, get_or-chunk, length-chunk, length-zip2, get_or-zip2}
 use Rattle.std.specs.Int.{w64}
-use Rattle.pim_lanes.specs.Lanes.{is_set, lane}
+use Rattle.pim_io.specs.Lanes.{is_set, lane}
 use Rattle.pim_lanes.specs.Rules.{Ruled, complement, nor1_word, nor2_word, rm3_word}
 use Rattle.pim_lanes.proofs.BitLemmas.{is_set-zero, is_set-ones}
 
@@ -154,6 +154,7 @@ pub lanes_ruled : (f : ℕ → ℕ → ℕ → ℕ) (g : Bool → Bool → Bool 
     (t a b new : List ℕ) → length a ≡ length t → length b ≡ length t →
     ((k : ℕ) → Fits w64 (get_or a k 0)) → ((k : ℕ) → Fits w64 (get_or b k 0)) →
     Ruled f 0 (length t) t a b new → (r : ℕ) → lane new r ≡ g (lane t r) (lane a r) (lane b r)
+unfolding lane
 lanes_ruled f g bits none t a b new same_a same_b fit_a fit_b done r = by_cases (cases_lt (r / 64) (length t))
   where
     by_cases : ((r / 64) < length t) ⊎ (length t ≤ (r / 64)) → lane new r ≡ g (lane t r) (lane a r) (lane b r)
@@ -174,6 +175,7 @@ ruled_whole f n t a b u v within same first second = rw (sym same) (ruled_then f
 
 -- a list of words that are all ones
 pub lane-ones : (n r : ℕ) → r < 64 * n → lane (replicate n (2 ^ 64 - 1)) r ≡ true
+unfolding lane
 lane-ones n r small =
     ap (λ (x : ℕ). is_set x (r % 64)) (get_or-replicate n (r / 64) (2 ^ 64 - 1) 0 (omega arith))
     ∙ is_set-ones (r % 64) (omega arith)

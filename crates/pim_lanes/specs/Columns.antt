@@ -1,10 +1,6 @@
 -- Columns of words that stand one after another in one list.
 use Rattle.std.specs.Prelude.{◌≡◌, ◌≢◌, ℕ, ◌*◌, ◌<◌, Bool, List, ◌++◌, length, take, drop}
-use Rattle.pim_lanes.specs.Lanes.{lane}
-
--- column c of columns of so many words
-unfoldable pub column_in : ℕ → List ℕ → ℕ → List ℕ
-column_in words buffer c = take words (drop (c * words) buffer)
+use Rattle.pim_io.specs.Lanes.{lane, column_in}
 
 -- lane r of column t is v r now, and all other columns are as they were
 pub record Stored (words t : ℕ) (v : ℕ → Bool) (old new : List ℕ) : Type 0 where

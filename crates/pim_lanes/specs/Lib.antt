@@ -1,4 +1,3 @@
-pub mod Lanes
 pub mod Rules
 pub mod Columns
 pub mod Banks

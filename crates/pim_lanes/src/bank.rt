@@ -1,7 +1,7 @@
 ghost use Rattle.std.specs.Prelude.{◌≡◌, ◌≢◌, ℕ, ◌+◌, ◌-◌, ◌<◌, ◌≤◌, ◌&&◌, ◌||◌, not, true, false, List, length, replicate, slice_set, IfOk, All};
 ghost use Rattle.pim_isa.specs.Steps.{bit, majority, set_ones, step, exec};
 ghost use Rattle.pim_isa.specs.Results.{fill_bit};
-ghost use Rattle.pim_lanes.specs.Lanes.{lane};
+ghost use Rattle.pim_io.specs.Lanes.{lane};
 ghost use Rattle.pim_lanes.specs.Banks.{column_of, column_at, with_column, row_of, IsRow, SameFrame, FitsCells, place_of, fill_word};
 
 use crate::columns;
@@ -21,7 +21,7 @@ pub struct Bank {
 }
 
 impl Model for Bank {
-    ghost use Rattle.pim_lanes.specs.Lanes.{lane};
+    ghost use Rattle.pim_io.specs.Lanes.{lane};
     ghost use Rattle.std.specs.Prelude.{◌*◌, drop};
     ghost use Rattle.pim_lanes.specs.Banks.{BankView, IsBuffer};
 

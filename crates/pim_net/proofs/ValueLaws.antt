@@ -10,7 +10,7 @@ use Rattle.pim_net.specs.Depths.{deepest, depth, depth_below, driver_depth}
 use Rattle.pim_net.specs.Values.{val, value, all_values, driver_value, equation_value, cover_value}
 use Rattle.pim_net.specs.Netlist.{NetView}
 use Rattle.pim_net.specs.WellFormed.{IsNet, IsWellFormed}
-use Rattle.pim_net.specs.Laws.{HasValues, HasCoverValues}
+use Rattle.pim_net.specs.Laws.{HasValues, HasInputValues, HasCoverValues}
 use Rattle.pim_net.specs.declared.parts.Equation.{Equation}
 use Rattle.pim_net.specs.declared.parts.OutRef.{OutRef}
 use Rattle.pim_net.specs.declared.driver.Driver.{Driver}
@@ -166,3 +166,29 @@ has_cover_values net checked = λ bits k whole within.
     let b = bool_of (value net bits s) (has_value inputs es bits (suc n) s l.0 whole l.1) in
     let more = equation_same below (λ c. val inputs es bits (suc n) c) (slice_get es k) b.0 (λ c x h. value_more inputs es bits n c x h) (sym is ∙ b.1) in
     b.1 ∙ sym more
+
+-- where all drivers are different, an input drives its signal
+input_drives : (inputs : List ℕ) (es : List Equation) (j : ℕ) → AllPairs ◌≢◌ (driven inputs es) → j < length inputs → driver inputs es (get_or inputs j 0) ≡ Input j
+input_drives inputs es j apart within =
+    let s = get_or inputs j 0 in
+    let long = length-append inputs (sigs es) in
+    let at : (i : ℕ) → i < length inputs → get_or (inputs ++ sigs es) i 0 ≡ get_or inputs i 0 = λ i h. get_or_append_left inputs (sigs es) 0 i h in
+    let only : (i : ℕ) → place s inputs ≡ Some i → i ≡ j = λ i h.
+    let w = place_is s inputs i h in
+    ⊎_elim
+    (λ (before : i < j). absurd (apart i j 0 before (omega (arith, long)) (at i w.0 ∙ (w.1 ∙ sym (at j within)))))
+    (λ (from : j ≤ i). ⊎_elim
+    (λ (after : j < i). absurd (apart j i 0 after (omega (arith, long, w.0)) (at j within ∙ (sym w.1 ∙ sym (at i w.0)))))
+    (λ (back : i ≤ j). let e : i ≡ j = omega arith in e)
+    (cases_lt j i))
+    (cases_lt i j) in
+    by (place s inputs) (place s (sigs es)) only (place_has inputs j within)
+  where
+    by : (p q : Option ℕ) → ((i : ℕ) → p ≡ Some i → i ≡ j) → is_some p ≡ true → driver_by p q ≡ Input j
+    by None q only has = cc
+    by (Some i) q only has = ap Input (only i refl)
+
+pub has_input_values : (net : NetView) → IsNet net → HasInputValues net
+has_input_values net checked = λ bits j whole within.
+    let below = λ (c : ℕ). val net.inputs net.equations bits (length net.equations) c in
+    ap (driver_value below net.equations bits) (input_drives net.inputs net.equations j checked.well_formed.once within)

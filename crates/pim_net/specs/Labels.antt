@@ -1,6 +1,6 @@
--- How long a label may be.
+-- What a name is that a label is made of.
 use Rattle.std.specs.Prelude.{ℕ, ◌<◌, ◌≤◌, List, length}
 
--- a label has 1 to 4,096 bytes
-abbrev pub IsLabel : List ℕ → Type 0
-IsLabel bytes = (0 < length bytes) × (length bytes ≤ 4096)
+-- a name has 1 to 4,096 bytes
+abbrev pub IsName : List ℕ → Type 0
+IsName bytes = (0 < length bytes) × (length bytes ≤ 4096)

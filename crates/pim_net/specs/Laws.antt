@@ -9,6 +9,12 @@ abbrev pub HasValues : NetView → Type 0
 HasValues net =
     (bits : List Bool) (s : ℕ) → length bits ≡ length net.inputs → Contains (driven net.inputs net.equations) s → IsSome (value net bits s)
 
+-- the signal of an input has the input's bit
+abbrev pub HasInputValues : NetView → Type 0
+HasInputValues net =
+    (bits : List Bool) (j : ℕ) → length bits ≡ length net.inputs → j < length net.inputs
+    → value net bits (slice_index net.inputs j) ≡ slice_get bits j
+
 -- and the signal of an equation has the value of its cover at the values of its columns
 abbrev pub HasCoverValues : NetView → Type 0
 HasCoverValues net =

@@ -21,7 +21,8 @@ pub record NetView : Type 0 where
   pub output_labels : List (List ℕ)
   pub topo : List ℕ
 
--- what every draft meets: signals in range, a label per input and output, and as many parts as the limits allow
+-- what every draft meets: signals in range, a cell per column in each row, a label per input and output, and as
+-- many parts as the limits allow
 pub record IsDraft (d : DraftView) : Type 0 where
   pub inputs_below : All (λ s. s < 1048576) d.inputs
   pub inputs_few : length d.inputs ≤ 1048576
@@ -29,6 +30,7 @@ pub record IsDraft (d : DraftView) : Type 0 where
   pub equations_below : All (λ e. e.sig < 1048576) d.equations
   pub columns_below : All (λ e. All (λ s. s < 1048576) e.cover.ins) d.equations
   pub columns_few : All (λ e. length e.cover.ins < 2 ^ 28) d.equations
+  pub rows_whole : All (λ e. All (λ row. length row ≡ length e.cover.ins) e.cover.rows) d.equations
   pub equations_few : length d.equations < 2 ^ 28
   pub outputs_below : All (λ o. o.sig < 1048576) d.outputs
   pub outputs_few : length d.outputs ≤ 1048576

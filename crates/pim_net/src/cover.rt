@@ -86,6 +86,7 @@ impl Cover {
     /// How many rows there are.
     pub fn row_count(&self) -> u32
         ensures count { result ≡ length self.now.rows }
+        ensures whole { All (λ row. length row ≡ length self.now.ins) self.now.rows }
         ensures short { result ≤ 2 ^ 28 }
     {
         self.count

@@ -1,6 +1,6 @@
 ghost use Rattle.std.specs.Prelude.{◌≡◌, ◌<◌, ◌+◌, ◌^◌, ◌++◌, ◌∷◌, [], length, OnOk, OnErr};
 ghost use Rattle.pim_io.specs.Names.{label};
-ghost use Rattle.pim_net.specs.Labels.{IsLabel};
+ghost use Rattle.pim_net.specs.Labels.{IsName};
 
 use crate::{Cover, Equation, Names, OutRef};
 use pim_io::NoMemory;
@@ -58,7 +58,7 @@ impl Draft {
     /// Adds an input of this signal, and the label of its name. After a refusal the draft is as before.
     pub fn add_input(&mut self, sig: u32, name: &[u8]) -> Result<(), NoMemory>
         requires below { sig < 1048576 }
-        requires labelled { IsLabel name.now }
+        requires labelled { IsName name.now }
         requires room { length self.old.inputs < 1048576 }
         ensures ok { OnOk result (self.new ≡ record self.old {
           inputs = self.old.inputs ++ sig ∷ [];
@@ -81,6 +81,8 @@ impl Draft {
         }) }
         ensures err { OnErr result (self.new ≡ self.old) }
     {
+        // It tells that the rows are whole.
+        let _rows = cover.row_count();
         self.equations.push(Equation { sig, cover })?;
         Ok(())
     }
@@ -88,7 +90,7 @@ impl Draft {
     /// Adds an output, and the label of its name. After a refusal the draft is as before.
     pub fn add_output(&mut self, out: OutRef, name: &[u8]) -> Result<(), NoMemory>
         requires below { out.sig < 1048576 }
-        requires labelled { IsLabel name.now }
+        requires labelled { IsName name.now }
         requires room { length self.old.outputs < 1048576 }
         ensures ok { OnOk result (self.new ≡ record self.old {
           outputs = self.old.outputs ++ out ∷ [];

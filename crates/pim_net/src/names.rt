@@ -1,6 +1,6 @@
 ghost use Rattle.std.specs.Prelude.{◌≡◌, ◌<◌, ◌≤◌, ◌+◌, ◌++◌, ◌∷◌, [], length, OnOk, OnErr, Some, option_map, slice_get};
 ghost use Rattle.pim_io.specs.Names.{label};
-ghost use Rattle.pim_net.specs.Labels.{IsLabel};
+ghost use Rattle.pim_net.specs.Labels.{IsName};
 
 use pim_io::{Name, NoMemory};
 use std::alloc::Global;
@@ -15,13 +15,13 @@ pub struct Names {
 
 impl Model for Names {
     ghost use Rattle.std.specs.Prelude.{ℕ, List, All};
-    ghost use Rattle.pim_net.specs.Labels.{IsLabel};
+    ghost use Rattle.pim_net.specs.Labels.{IsName};
 
     ghost Value = { List (List ℕ) };
 
     ghost view = { λ n. n.labels.items };
 
-    ghost invariant = { λ n. All IsLabel n.labels.items };
+    ghost invariant = { λ n. All IsName n.labels.items };
 }
 
 impl Names {
@@ -37,7 +37,7 @@ impl Names {
 
     /// Appends the label of a name of 1 to 4,096 bytes. After a refusal the labels are as before.
     pub fn push(&mut self, name: &[u8]) -> Result<(), NoMemory>
-        requires { IsLabel name.now }
+        requires { IsName name.now }
         ensures ok { OnOk result (self.new ≡ self.old ++ label name.now ∷ []) }
         ensures err { OnErr result (self.new ≡ self.old) }
     {
@@ -50,7 +50,7 @@ impl Names {
     pub fn get(&self, sig: u32) -> &[u8]
         requires { sig < length self.now }
         ensures label { slice_get self.now sig ≡ Some result.now }
-        ensures bytes { IsLabel result.now }
+        ensures bytes { IsName result.now }
         ensures same { label result.now ≡ result.now }
     {
         self.labels[sig as usize].bytes()

@@ -1,6 +1,6 @@
 ghost use Rattle.std.specs.Prelude.{◌≡◌, ◌<◌, ◌⊎◌, length, Some, None, slice_get, IfOk, IfErr, OnOk};
 ghost use Rattle.pim_io.specs.Names.{label};
-ghost use Rattle.pim_net.specs.Labels.{IsLabel};
+ghost use Rattle.pim_net.specs.Labels.{IsName};
 
 use crate::judge::judge;
 use crate::{Draft, Equation, Names, NetFault, OutRef};
@@ -47,7 +47,7 @@ impl Model for Net {
 impl Net {
     ghost use Rattle.pim_net.specs.Netlist.{draft_of};
     ghost use Rattle.pim_net.specs.Faults.{net_fault};
-    ghost use Rattle.pim_net.specs.Laws.{HasValues, HasCoverValues};
+    ghost use Rattle.pim_net.specs.Laws.{HasValues, HasInputValues, HasCoverValues};
     ghost use Rattle.pim_net.specs.WellFormed.{IsNet, IsWellFormed};
     ghost use Rattle.pim_net.specs.declared.fault.NetFault.TheVariants.{NoMemory};
 
@@ -96,7 +96,7 @@ impl Net {
     pub fn input_label(&self, k: u32) -> &[u8]
         requires { k < length self.now.input_labels }
         ensures label { slice_get self.now.input_labels k ≡ Some result.now }
-        ensures bytes { IsLabel result.now }
+        ensures bytes { IsName result.now }
         ensures same { label result.now ≡ result.now }
     {
         self.input_labels.get(k)
@@ -122,7 +122,7 @@ impl Net {
     pub fn output_label(&self, k: u32) -> &[u8]
         requires { k < length self.now.output_labels }
         ensures label { slice_get self.now.output_labels k ≡ Some result.now }
-        ensures bytes { IsLabel result.now }
+        ensures bytes { IsName result.now }
         ensures same { label result.now ≡ result.now }
     {
         self.output_labels.get(k)
@@ -137,9 +137,11 @@ impl Net {
     }
 
     /// The law of values, for those who read a netlist: it computes nothing. With a bit per input, every signal that is
-    /// driven has a value, and the signal of an equation has the value of its cover at the values of its columns.
+    /// driven has a value, that of an input its bit, and that of an equation the value of its cover at the values of its
+    /// columns.
     pub fn has_values(&self)
         ensures driven { HasValues self.now }
+        ensures inputs { HasInputValues self.now }
         ensures covers { HasCoverValues self.now }
     {
         let _ = &self.topo;

@@ -10,11 +10,11 @@ use Rattle.pim_aig.specs.declared.literal.Lit.{Lit}
 use Rattle.pim_aig.specs.declared.graph.And.{And}
 use Rattle.pim_nor.specs.declared.network.Pin.{Pin}
 use Rattle.pim_nor.specs.declared.network.Pin.TheVariants.{Input, Gate as Place}
-use Rattle.pim_nor.specs.Named.{source, literal_at, nor_of}
+use Rattle.pim_nor.specs.Named.{source, literal_at, nor_of, nor_of_leaves}
 use Rattle.pim_nor.specs.Network.{pins}
 use Rattle.pim_nor.specs.Values.{none_true}
 use Rattle.pim_nor.proofs.PrunedValues.{full_value}
-use Rattle.pim_nor.proofs.Sound.{literal_low, literal_mid, literal_high}
+use Rattle.pim_nor.proofs.SlotLiterals.{literal_low, literal_mid, literal_high}
 
 -- the value of a slot
 abbrev pub slot_value : ℕ → List Bool → ℕ → Bool
@@ -30,10 +30,10 @@ value-even values l e = grind (arith, nat_tests)
 pub value-odd : (values : List Bool) (l : Lit) → l.0 % 2 ≡ 1 → literal_value values l ≡ not (get_or values (l.0 / 2) false)
 value-odd values l e = grind (arith, nat_tests)
 
-complement-even : (l : Lit) → l.0 % 2 ≡ 0 → (complement l).0 ≡ l.0 + 1
+pub complement-even : (l : Lit) → l.0 % 2 ≡ 0 → (complement l).0 ≡ l.0 + 1
 complement-even l e = grind arith
 
-complement-odd : (l : Lit) → l.0 % 2 ≡ 1 → (complement l).0 ≡ l.0 - 1
+pub complement-odd : (l : Lit) → l.0 % 2 ≡ 1 → (complement l).0 ≡ l.0 - 1
 complement-odd l e = grind arith
 
 pub not_not : (b : Bool) → not (not b) ≡ b
@@ -91,7 +91,7 @@ and_value values (a ∷ rest) (suc k) d h x y =
 source_low : (inputs : ℕ) (l : Lit) → l.0 < 2 → source inputs l ≡ Place (1 - l.0)
 source_low inputs l h = grind arith
 
-source_and : (inputs : ℕ) (l : Lit) → inputs < l.0 / 2 → source inputs l ≡ Place (l.0 - inputs)
+pub source_and : (inputs : ℕ) (l : Lit) → inputs < l.0 / 2 → source inputs l ≡ Place (l.0 - inputs)
 source_and inputs l h = grind arith
 
 source_odd : (inputs : ℕ) (l : Lit) → 2 ≤ l.0 → l.0 / 2 ≤ inputs → l.0 % 2 ≡ 1 → source inputs l ≡ Place (2 + inputs - l.0 / 2)
@@ -142,7 +142,7 @@ abbrev pub all_true : List Bool → List Lit → Bool
 all_true values [] = true
 all_true values (l ∷ ls) = literal_value values l && all_true values ls
 
-pins-nor_of : (ps : List Pin) → length ps ≤ 4 → pins (nor_of ps) ≡ ps
+pub pins-nor_of : (ps : List Pin) → length ps ≤ 4 → pins (nor_of ps) ≡ ps
 pins-nor_of [] h = refl
 pins-nor_of (a ∷ []) h = refl
 pins-nor_of (a ∷ b ∷ []) h = refl
@@ -158,7 +158,7 @@ none_true-sources g bits values ev (l ∷ ls) =
     ap (λ (b : Bool). b && none_true full (map (λ leaf. source g.inputs (complement leaf)) ls)) here ∙ ap (λ (b : Bool). literal_value values l && b) (none_true-sources g bits values ev ls)
 
 -- the NOR of at most four leaves' complements is true exactly where all leaves are
-pub nor_of-value : (g : AigView) (bits values : List Bool) → IsEvaluated g bits values → (ls : List Lit) → length ls ≤ 4 → none_true (full_value bits (slot_value g.inputs values)) (pins (nor_of (map (λ leaf. source g.inputs (complement leaf)) ls))) ≡ all_true values ls
+pub nor_of-value : (g : AigView) (bits values : List Bool) → IsEvaluated g bits values → (ls : List Lit) → length ls ≤ 4 → none_true (full_value bits (slot_value g.inputs values)) (pins (nor_of_leaves g.inputs ls)) ≡ all_true values ls
 nor_of-value g bits values ev ls few =
     let ps = map (λ leaf. source g.inputs (complement leaf)) ls in
     ap (λ (qs : List Pin). none_true (full_value bits (slot_value g.inputs values)) qs) (pins-nor_of ps (omega (arith, length-map ls (λ leaf. source g.inputs (complement leaf))))) ∙ none_true-sources g bits values ev ls

@@ -1,10 +1,9 @@
 -- The gates that an and-inverter graph can need. A gate is named by the literal that it has the value of: the plain
 -- literal of a node for the node's value, the other for its complement. An input's own value is no gate.
-use Rattle.std.specs.Prelude.{ℕ, ◌+◌, ◌-◌, ◌*◌, ◌/◌, ◌%◌, ◌==◌, ◌||◌, nat_lt, if◌then◌else◌, List, [], ◌∷◌, map, length, slice_index_or}
+use Rattle.std.specs.Prelude.{ℕ, ◌+◌, ◌-◌, ◌*◌, ◌/◌, ◌%◌, ◌==◌, ◌||◌, nat_lt, if◌then◌else◌, List, [], ◌∷◌, map, length}
 use Rattle.pim_aig.specs.Graph.{AigView}
-use Rattle.pim_aig.specs.Literals.{plain, complement}
+use Rattle.pim_aig.specs.Literals.{complement, node}
 use Rattle.pim_aig.specs.declared.literal.Lit.{Lit}
-use Rattle.pim_aig.specs.declared.graph.And.{And}
 use Rattle.pim_nor.specs.declared.network.Pin.{Pin}
 use Rattle.pim_nor.specs.declared.network.Pin.TheVariants.{Input, Gate as Place}
 use Rattle.pim_nor.specs.declared.network.Gate.{Gate}
@@ -30,10 +29,6 @@ source inputs l =
     else (if nat_lt inputs (l.0 / 2) then Place (l.0 - inputs)
     else (if l.0 % 2 == 1 then Place (2 + inputs - l.0 / 2) else Input (l.0 / 2 - 1)))
 
--- the operands of an AND node; one that repeats the other is dropped
-abbrev pub leaves : And → List Lit
-leaves a = if a.x.0 == a.y.0 then a.x ∷ [] else a.x ∷ a.y ∷ []
-
 -- the NOR of these operands
 abbrev pub nor_of : List Pin → Gate
 nor_of [] = One
@@ -42,14 +37,26 @@ nor_of (a ∷ b ∷ []) = Nor a b
 nor_of (a ∷ b ∷ c ∷ []) = Nor3 a b c
 nor_of (a ∷ b ∷ c ∷ d ∷ rest) = Nor4 a b c d
 
--- what the gate of a literal is: nothing is read by the constant one, a complement is the NOT of what it complements,
--- and an AND node's value is the NOR of its leaves' complements
-abbrev pub gate_of : AigView → Lit → Gate
-gate_of g l =
+-- the gate that reads one more pin, and at most four
+abbrev pub reading : Gate → Pin → Gate
+reading One p = Not p
+reading (Not a) p = Nor a p
+reading (Nor a b) p = Nor3 a b p
+reading (Nor3 a b c) p = Nor4 a b c p
+reading (Nor4 a b c d) p = Nor4 a b c d
+
+-- the gate of an AND node's value: the NOR of its leaves' complements
+abbrev pub nor_of_leaves : ℕ → List Lit → Gate
+nor_of_leaves inputs leaves = nor_of (map (λ leaf. source inputs (complement leaf)) leaves)
+
+-- what the gate of a literal is, where the AND nodes have these leaves: nothing is read by the constant one, a complement
+-- is the NOT of what it complements, and an AND node's value is the NOR of its leaves' complements
+abbrev pub gate_of : AigView → (ℕ → List Lit) → Lit → Gate
+gate_of g leaves l =
     if l.0 == 1 then One
     else (if (l.0 == 0) || (l.0 % 2 == 1) then Not (source g.inputs (complement l))
-    else nor_of (map (λ leaf. source g.inputs (complement leaf)) (leaves (slice_index_or g.ands (l.0 / 2 - 1 - g.inputs) (record { x = plain 0; y = plain 0 })))))
+    else nor_of_leaves g.inputs (leaves (node l)))
 
 -- the gate of a slot
-abbrev pub gate_at : AigView → ℕ → Gate
-gate_at g slot = gate_of g (literal_at g.inputs slot)
+abbrev pub gate_at : AigView → (ℕ → List Lit) → ℕ → Gate
+gate_at g leaves slot = gate_of g leaves (literal_at g.inputs slot)

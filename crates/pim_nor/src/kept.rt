@@ -1,13 +1,14 @@
 ghost use Rattle.std.specs.Prelude.{◌≡◌, ◌+◌, ◌*◌, ◌≤◌, ◌<◌, ◌^◌, ℕ, length, map, slice_index, IfOk, vec_len};
 ghost use Rattle.pim_aig.specs.Graph.{IsAig};
+ghost use Rattle.pim_nor.specs.Leaves.{leaves};
 ghost use Rattle.pim_nor.specs.Lowered.{roots};
 ghost use Rattle.pim_nor.specs.Named.{gate_at, slots};
 ghost use Rattle.pim_nor.specs.Network.{AreInputsOrFirst, IsInputOrFirst, pins};
 ghost use Rattle.pim_nor.specs.Reached.{kept, number, numbered, numbered_gate};
 
-use crate::slots::{gate_at, slots, source};
+use crate::plan::Plan;
+use crate::slots::source;
 use crate::{Gate, Pin};
-use pim_aig::Aig;
 use pim_io::NoMemory;
 use std::alloc::Global;
 use std::marker::Model;
@@ -72,25 +73,27 @@ impl Kept {
     }
 
     /// The kept gates of a graph, each by its numbers. Linear in the slots.
-    pub(crate) fn gates(&self, alloc: Global, aig: &Aig) -> Result<Vec<Gate>, NoMemory>
-        requires { length self.now ≡ slots aig.now }
-        ensures { IfOk result
-            (λ gates. gates.items ≡ kept (λ s. numbered_gate self.now (gate_at aig.now s)) 0 self.now) }
+    pub(crate) fn gates(&self, alloc: Global, plan: &Plan) -> Result<Vec<Gate>, NoMemory>
+        requires { length self.now ≡ slots plan.now.graph }
+        ensures { IfOk result (λ gates. gates.items
+            ≡ kept (λ s. numbered_gate self.now
+            (gate_at plan.now.graph (leaves plan.now.graph plan.now.width) s)) 0 self.now) }
     {
         let mut gates = Vec::new(alloc);
-        for slot in 0..slots(aig) {
+        for slot in 0..plan.slots() {
             if self.marks[slot as usize] {
-                gates.push(self.gate(gate_at(aig, slot)))?;
+                gates.push(self.gate(plan.gate_at(slot)))?;
             }
         }
         Ok(gates)
     }
 
     /// What the outputs of a graph read. Linear in the outputs.
-    pub(crate) fn outs(&self, alloc: Global, aig: &Aig) -> Result<Vec<Pin>, NoMemory>
-        requires { length self.now ≡ slots aig.now }
-        ensures { IfOk result (λ outs. outs.items ≡ map (numbered self.now) (roots aig.now)) }
+    pub(crate) fn outs(&self, alloc: Global, plan: &Plan) -> Result<Vec<Pin>, NoMemory>
+        requires { length self.now ≡ slots plan.now.graph }
+        ensures { IfOk result (λ outs. outs.items ≡ map (numbered self.now) (roots plan.now.graph)) }
     {
+        let aig = plan.aig();
         let inputs = aig.inputs();
         let mut outs = Vec::new(alloc);
         for out in aig.outputs() {

@@ -1,6 +1,12 @@
-ghost use Rattle.std.specs.Prelude.{◌≡◌, ◌<◌, ◌^◌, length};
+ghost use Rattle.std.specs.Prelude.{◌≡◌, ◌<◌, ◌^◌, length, IfOk};
+ghost use Rattle.pim_nor.specs.GateGraphs.{graph_of};
 ghost use Rattle.pim_nor.specs.Network.{IsNetwork, nor_count};
+ghost use Rattle.pim_nor.specs.Named.{reading};
 
+use crate::gate_graph::graph_of;
+use pim_graph::Graph;
+use pim_io::NoMemory;
+use std::alloc::Global;
 use std::marker::Model;
 
 /// What a gate or an output reads: an input, or a gate of the network, by its number.
@@ -20,6 +26,21 @@ pub enum Gate {
     Nor4(Pin, Pin, Pin, Pin),
 }
 
+impl Gate {
+    /// The gate that reads one more pin. A gate of four reads no more.
+    pub(crate) fn reading(self, pin: Pin) -> Gate
+        ensures { result ≡ reading self pin }
+    {
+        match self {
+            Gate::One => Gate::Not(pin),
+            Gate::Not(a) => Gate::Nor(a, pin),
+            Gate::Nor(a, b) => Gate::Nor3(a, b, pin),
+            Gate::Nor3(a, b, c) => Gate::Nor4(a, b, c, pin),
+            Gate::Nor4(..) => self,
+        }
+    }
+}
+
 /// A network of gates, each of which stands after those that it reads, and what its outputs read.
 #[derive(Debug, Drop)]
 pub struct NorNet {
@@ -27,10 +48,12 @@ pub struct NorNet {
     gates: Vec<Gate>,
     outs: Vec<Pin>,
     nors: u32,
+    graph: Graph,
 }
 
 impl Model for NorNet {
     ghost use Rattle.std.specs.Prelude.{◌≡◌};
+    ghost use Rattle.pim_nor.specs.GateGraphs.{graph_of};
     ghost use Rattle.pim_nor.specs.Network.{NorView, IsNetwork, nor_count};
 
     ghost Value = { NorView };
@@ -38,22 +61,31 @@ impl Model for NorNet {
     ghost view = { λ n. record { inputs = n.inputs; gates = n.gates.items; outs = n.outs.items } };
 
     ghost invariant = { λ n. IsNetwork (record { inputs = n.inputs; gates = n.gates.items; outs = n.outs.items })
-        × (n.nors ≡ nor_count n.gates.items) };
+        × (n.nors ≡ nor_count n.gates.items)
+        × (n.graph ≡ graph_of (record { inputs = n.inputs; gates = n.gates.items; outs = n.outs.items })) };
 }
 
 impl NorNet {
-    /// A network of these gates and outputs. Linear in the gates, which it counts.
-    pub(crate) fn new(inputs: u32, gates: Vec<Gate>, outs: Vec<Pin>) -> NorNet
+    /// A network of these gates and outputs. Linear in the gates, which it counts and puts into a graph.
+    pub(crate) fn new(
+        alloc: Global,
+        inputs: u32,
+        gates: Vec<Gate>,
+        outs: Vec<Pin>,
+    ) -> Result<NorNet, NoMemory>
         requires { IsNetwork (record { inputs = inputs; gates = gates.items; outs = outs.items }) }
-        ensures { result ≡ record { inputs = inputs; gates = gates.items; outs = outs.items } }
+        ensures { IfOk result
+            (λ network. network ≡ record { inputs = inputs; gates = gates.items; outs = outs.items }) }
     {
         let nors = nor_count(&gates);
-        NorNet {
+        let graph = graph_of(alloc, &gates, &outs)?;
+        Ok(NorNet {
             inputs,
             gates,
             outs,
             nors,
-        }
+            graph,
+        })
     }
 
     /// How many inputs the network has.
@@ -78,6 +110,14 @@ impl NorNet {
         ensures sound { IsNetwork self.now }
     {
         self.outs.as_slice()
+    }
+
+    /// The graph of the gates: gate k reads the gates among its operands, in their order and each once, and the roots are
+    /// the gates of the outputs, in the order of the outputs and each once. Constant time.
+    pub fn graph(&self) -> &Graph
+        ensures { result.now ≡ graph_of self.now }
+    {
+        &self.graph
     }
 
     /// How many of the gates are a NOR or a NOT: all but `One`. Constant time.

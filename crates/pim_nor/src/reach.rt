@@ -1,13 +1,14 @@
 ghost use Rattle.std.specs.Prelude.{◌≡◌, ◌≤◌, ◌<◌, false, replicate, IfOk, vec_len};
 ghost use Rattle.pim_aig.specs.Graph.{IsAig};
+ghost use Rattle.pim_nor.specs.Leaves.{leaves};
 ghost use Rattle.pim_nor.specs.Lowered.{marks_of, roots};
 ghost use Rattle.pim_nor.specs.Named.{gate_at, slots};
 ghost use Rattle.pim_nor.specs.Network.{AreInputsOrFirst, IsInputOrFirst, pins};
 ghost use Rattle.pim_nor.specs.Reached.{mark, mark_all};
 
-use crate::slots::{gate_at, slots, source};
+use crate::plan::Plan;
+use crate::slots::source;
 use crate::{Gate, Pin};
-use pim_aig::Aig;
 use pim_io::NoMemory;
 use std::alloc::Global;
 
@@ -50,12 +51,14 @@ fn mark_read(marks: &mut Vec<bool>, gate: Gate)
 }
 
 /// Marks the gates that outputs read.
-fn marked_roots(alloc: Global, aig: &Aig) -> Result<Vec<bool>, NoMemory>
-    ensures marks { IfOk result (λ marks. marks.items ≡ mark_all (replicate (slots aig.now) false) (roots aig.now)) }
-    ensures len { IfOk result (λ marks. vec_len marks ≡ slots aig.now) }
+fn marked_roots(alloc: Global, plan: &Plan) -> Result<Vec<bool>, NoMemory>
+    ensures marks { IfOk result (λ marks. marks.items
+        ≡ mark_all (replicate (slots plan.now.graph) false) (roots plan.now.graph)) }
+    ensures len { IfOk result (λ marks. vec_len marks ≡ slots plan.now.graph) }
 {
+    let aig = plan.aig();
     let inputs = aig.inputs();
-    let mut marks = vec![in alloc; false; slots(aig) as usize]?;
+    let mut marks = vec![in alloc; false; plan.slots() as usize]?;
     for out in aig.outputs() {
         mark(&mut marks, source(inputs, *out));
     }
@@ -64,14 +67,15 @@ fn marked_roots(alloc: Global, aig: &Aig) -> Result<Vec<bool>, NoMemory>
 
 /// Which slots' gates the outputs reach. Linear in the nodes of the graph: each gate stands after those that it reads,
 /// so one pass from the last slot down marks all.
-pub(crate) fn reached(alloc: Global, aig: &Aig) -> Result<Vec<bool>, NoMemory>
-    ensures marks { IfOk result (λ marks. marks.items ≡ marks_of aig.now) }
-    ensures len { IfOk result (λ marks. vec_len marks ≡ slots aig.now) }
+pub(crate) fn reached(alloc: Global, plan: &Plan) -> Result<Vec<bool>, NoMemory>
+    ensures marks { IfOk result
+        (λ marks. marks.items ≡ marks_of plan.now.graph (leaves plan.now.graph plan.now.width)) }
+    ensures len { IfOk result (λ marks. vec_len marks ≡ slots plan.now.graph) }
 {
-    let mut marks = marked_roots(alloc, aig)?;
-    for slot in (0..slots(aig)).rev() {
+    let mut marks = marked_roots(alloc, plan)?;
+    for slot in (0..plan.slots()).rev() {
         if marks[slot as usize] {
-            mark_read(&mut marks, gate_at(aig, slot));
+            mark_read(&mut marks, plan.gate_at(slot));
         }
     }
     Ok(marks)

@@ -195,7 +195,7 @@ fn limits_are_judged(rt: HostRuntime) -> Result<(), Fail> {
     )
 }
 
-/// The AND in the binary form: its 18 bytes, every cut of them, and a gate whose difference is zero.
+/// The AND in the binary form: its 18 bytes, the cut before the last, and codes and headers that are refused.
 #[test]
 fn the_binary_form(rt: HostRuntime) -> Result<(), Fail> {
     check(

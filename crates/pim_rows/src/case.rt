@@ -1,4 +1,6 @@
 //! One call of the tool over memory, and what it has to answer.
+ghost use Rattle.std.specs.Prelude.{◌<◌};
+
 use pim_io::{MemSink, MemSource};
 use pim_top::{Status, pim};
 use std::alloc::Global;
@@ -31,13 +33,23 @@ pub fn words_of(alloc: Global, words: &[&str]) -> Result<Vec<String>, Fail> {
     Ok(all)
 }
 
-/// Makes the call with ample memory and room, and compares.
-pub fn check(rt: &impl Abort, alloc: Global, case: &Case) -> Result<(), Fail> {
-    let words = words_of(alloc, case.words)?;
+/// How a call ended.
+#[derive(Drop)]
+pub struct Ending {
+    pub status: Status,
+    pub output: Vec<u8>,
+    pub notes: Vec<u8>,
+}
+
+/// Makes the call with ample memory and room, where the input comes in pieces of so many bytes.
+pub fn call(alloc: Global, words: &[&str], input: &[u8], piece: usize) -> Result<Ending, Fail>
+    requires { 0 < piece }
+{
+    let words = words_of(alloc, words)?;
     let mut program = MemSource::new(alloc, b"", 1, &[])?;
-    let mut input = MemSource::new(alloc, case.input, 7, &[])?;
+    let mut input = MemSource::new(alloc, input, piece, &[])?;
     let mut output = MemSink::new(alloc, 65_536, 4_096, &[])?;
-    let mut notes = MemSink::new(alloc, 65_536, 4_096, &[])?;
+    let mut notes = MemSink::new(alloc, 1_048_576, 4_096, &[])?;
     let status = pim(
         alloc,
         &words,
@@ -46,8 +58,18 @@ pub fn check(rt: &impl Abort, alloc: Global, case: &Case) -> Result<(), Fail> {
         &mut output,
         &mut notes,
     );
-    assert_eq!(rt; status, case.status);
-    assert_eq!(rt; output.bytes(), case.output);
-    assert_eq!(rt; notes.bytes(), case.note);
+    Ok(Ending {
+        status,
+        output: Vec::from_slice(alloc, output.bytes())?,
+        notes: Vec::from_slice(alloc, notes.bytes())?,
+    })
+}
+
+/// Makes the call with ample memory and room, and compares.
+pub fn check(rt: &impl Abort, alloc: Global, case: &Case) -> Result<(), Fail> {
+    let ending = call(alloc, case.words, case.input, 7)?;
+    assert_eq!(rt; ending.status, case.status);
+    assert_eq!(rt; ending.output.as_slice(), case.output);
+    assert_eq!(rt; ending.notes.as_slice(), case.note);
     Ok(())
 }

@@ -4,6 +4,8 @@
 #[cfg(test)]
 mod aiger;
 #[cfg(test)]
+mod blif;
+#[cfg(test)]
 mod case;
 #[cfg(test)]
 mod compile;

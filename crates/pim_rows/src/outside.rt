@@ -1,19 +1,11 @@
 //! Sources and sinks that fail.
-use crate::case::{AND_NETLIST, AND_PROGRAM, words_of};
+use crate::case::{AND_NETLIST, AND_PROGRAM, Ending, words_of};
 use pim_io::{MemSink, MemSource};
 use pim_top::{Status, pim};
 use std::alloc::Global;
 use std::test::Fail;
 
 const FIVE: &[&str] = &["compile", "--target", "magic", "--cells", "5"];
-
-/// How a call with a failing source or sink ended.
-#[derive(Drop)]
-struct Ending {
-    status: Status,
-    output: Vec<u8>,
-    notes: Vec<u8>,
-}
 
 /// Compiles the AND one byte at a time, where these calls of the input, the output and the notes fail.
 fn compile_and(

@@ -1,8 +1,7 @@
 -- The wide schedule primes the target of each NOR: its Init sets the cells of all gates, and each is written once.
 use Rattle.std.proofs.Common.{◌≡◌, ℕ, ◌+◌, ◌<◌, ◌≤◌, Bool, true, false, List, [], ◌∷◌, ◌++◌, length, refl, arith}
 use Rattle.std.proofs.lemmas.Bool.Decides.{nat_tests}
-use Rattle.pim_isa.specs.Primed.{IsPrimed, IsPrimedFrom, primed_after}
-use Rattle.pim_isa.proofs.PrimedLemmas.{primed_from_front}
+use Rattle.pim_isa.specs.Primed.{IsPrimedFrom, primed_after}
 use Rattle.pim_isa.specs.Validity.{has}
 use Rattle.pim_isa.specs.declared.instr.Ins.{Ins}
 use Rattle.pim_isa.specs.declared.instr.Ins.TheVariants as ins
@@ -50,13 +49,10 @@ cells_from-has (g ∷ gs) t c a b =
     let rest : (t + 1 ≤ c) → has c (cells_from (t + 1) gs) ≡ true = λ l. cells_from-has gs (t + 1) c l (omega arith) in
     grind (arith, nat_tests)
 
-instrs-ready : (inputs : ℕ) (gs : List Gate) → IsPrimedFrom (λ _. false) (init_of inputs gs ++ gate_instrs inputs inputs gs)
+pub instrs-ready : (inputs : ℕ) (gs : List Gate) → IsPrimedFrom (λ _. false) (init_of inputs gs ++ gate_instrs inputs inputs gs)
 instrs-ready inputs [] = tt
 instrs-ready inputs (g ∷ gs) = (
   tt,
   gates-ready (primed_after (λ _. false) (instr.Init (cells_from inputs (g ∷ gs)))) inputs inputs (g ∷ gs)
       (λ c a b. rw (cells_from-has (g ∷ gs) inputs c a b) refl),
 )
-
-pub wide-primed : (inputs : ℕ) (gs : List Gate) → IsPrimed (init_of inputs gs ++ gate_instrs inputs inputs gs)
-wide-primed inputs gs = primed_from_front (init_of inputs gs ++ gate_instrs inputs inputs gs) (instrs-ready inputs gs)

@@ -14,7 +14,8 @@ use Rattle.pim_nor.specs.declared.network.Pin.{Pin}
 use Rattle.pim_nor.specs.declared.network.Pin.TheVariants.{Input, Gate as Place}
 use Rattle.pim_nor.specs.declared.network.Gate.{Gate}
 use Rattle.pim_nor.specs.declared.network.Gate.TheVariants.{One, Not, Nor, Nor3, Nor4}
-use Rattle.pim_simpler.specs.Wide.{cell_of, gate_instrs, cells_from, init_of, input_ports, output_ports, wide, PinsFit, GatesFit}
+use Rattle.pim_isa.specs.PortLists.{input_ports}
+use Rattle.pim_simpler.specs.Wide.{cell_of, gate_instrs, cells_from, init_of, output_ports, wide, PinsFit, GatesFit}
 
 -- every number of the list is below the bound
 abbrev pub AreBelow : ℕ → List ℕ → Type 0

@@ -9,7 +9,8 @@ use Rattle.pim_nor.specs.Values.{pin_value, gate_value, gate_values_from, gate_v
 use Rattle.pim_nor.specs.declared.network.Pin.{Pin}
 use Rattle.pim_nor.specs.declared.network.Gate.{Gate}
 use Rattle.pim_simpler.specs.Means.{Means}
-use Rattle.pim_simpler.specs.Wide.{cell_of, output_ports, labels_of, wide}
+use Rattle.pim_isa.specs.PortLists.{labels_of}
+use Rattle.pim_simpler.specs.Wide.{cell_of, output_ports, wide}
 use Rattle.pim_simpler.proofs.Sound.{network-back, outs-first}
 use Rattle.pim_simpler.proofs.Runs.{Holds, pin-held, wide-run}
 use Rattle.pim_simpler.proofs.Frame.{Avoid-get, exec-kept, length-exec, wide-avoid}

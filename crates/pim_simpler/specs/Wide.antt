@@ -1,6 +1,7 @@
 -- The wide schedule of a network: each gate has a cell of its own, in the order of the gates, after those of the inputs.
 use Rattle.std.specs.Prelude.{ℕ, ◌+◌, ◌^◌, ◌<◌, List, [], ◌∷◌, ◌++◌, length}
 use Rattle.pim_isa.specs.Programs.{ProgramView, PortsView}
+use Rattle.pim_isa.specs.PortLists.{input_ports}
 use Rattle.pim_isa.specs.declared.port.Port.{Port}
 use Rattle.pim_isa.specs.declared.target.Target.TheVariants.{Magic}
 use Rattle.pim_isa.specs.declared.instr.Ins.TheVariants as ins
@@ -52,22 +53,12 @@ abbrev pub init_of : ℕ → List Gate → List Instr
 init_of inputs [] = []
 init_of inputs (g ∷ gs) = instr.Init (cells_from inputs (g ∷ gs)) ∷ []
 
--- ports with these labels in the cells from c on
-abbrev pub input_ports : ℕ → List (List ℕ) → List Port
-input_ports c [] = []
-input_ports c (label ∷ labels) = record { cell = c; label = label } ∷ input_ports (c + 1) labels
-
 -- a port for each output, in the cell of what it reads
 abbrev pub output_ports : ℕ → List Pin → List (List ℕ) → List Port
 output_ports inputs [] labels = []
 output_ports inputs (pin ∷ pins) [] = []
 output_ports inputs (pin ∷ pins) (label ∷ labels) =
     record { cell = cell_of inputs pin; label = label } ∷ output_ports inputs pins labels
-
--- the labels of ports
-abbrev pub labels_of : List Port → List (List ℕ)
-labels_of [] = []
-labels_of (port ∷ ports) = port.label ∷ labels_of ports
 
 -- the whole program
 abbrev pub wide : NorView → PortsView → ProgramView

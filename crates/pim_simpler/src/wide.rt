@@ -1,8 +1,9 @@
 ghost use Rattle.std.specs.Prelude.{◌≡◌, ◌+◌, ◌^◌, ◌<◌, ◌≤◌, [], ◌∷◌, ◌++◌, length, IfOk, IfErr, OnOk};
 ghost use Rattle.pim_nor.specs.Network.{IsNetwork, pins};
+ghost use Rattle.pim_isa.specs.PortLists.{input_ports, labels_of};
 ghost use Rattle.pim_isa.specs.Primed.{IsPrimed};
 ghost use Rattle.pim_simpler.specs.Means.{Means, IsRefusal};
-ghost use Rattle.pim_simpler.specs.Wide.{wide, labels_of, input_ports, output_ports, gate_instrs, init_of, cells_from, cell_of, instrs_of, GatesFit, PinsFit};
+ghost use Rattle.pim_simpler.specs.Wide.{wide, output_ports, gate_instrs, init_of, cells_from, cell_of, instrs_of, GatesFit, PinsFit};
 
 use crate::Refusal;
 use pim_io::{Name, NoMemory};
@@ -34,7 +35,10 @@ pub fn schedule(alloc: Global, net: &NorNet, ports: &Ports, budget: u32) -> Resu
     }
     match wide_draft(alloc, net, ports) {
         Ok(draft) => match Program::new(draft) {
-            Ok(program) => Ok(program),
+            Ok(program) => {
+                program.primed_from_front();
+                Ok(program)
+            }
             Err(_) => unreachable!(),
         },
         Err(NoMemory) => Err(Refusal::NoMemory),

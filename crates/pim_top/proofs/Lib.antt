@@ -1,3 +1,6 @@
-pub mod Complete
-pub mod Faulty
 pub mod Took
+pub mod Walking
+pub mod WalkSteps
+pub mod Reading
+pub mod RunEnds
+pub mod CompileEnds

@@ -1,4 +1,11 @@
 pub mod Compiled
+pub mod Netlists
 pub mod Statuses
 pub mod Refusals
 pub mod Notes
+pub mod Vectors
+pub mod Runs
+pub mod Outcomes
+pub mod Reads
+pub mod Cuts
+pub mod Walks

@@ -6,7 +6,16 @@ use Rattle.pim_net.specs.declared.fault.NetFault.TheVariants as net
 use Rattle.pim_net.specs.declared.kind.Kind.TheVariants as kind
 use Rattle.pim_aiger.specs.declared.fault.AigerFault.{AigerFault}
 use Rattle.pim_aiger.specs.declared.fault.AigerFault.TheVariants as aiger
+use Rattle.pim_blif.specs.declared.fault.BlifFault.{BlifFault}
+use Rattle.pim_blif.specs.declared.fault.BlifFault.TheVariants as blif
+use Rattle.pim_file.specs.declared.fault.FileFault.{FileFault}
+use Rattle.pim_file.specs.declared.fault.FileFault.TheVariants as file
+use Rattle.pim_isa.specs.declared.invalid.Invalid.{Invalid}
+use Rattle.pim_isa.specs.declared.invalid.Invalid.TheVariants as invalid
+use Rattle.pim_top.specs.declared.netlist.NetlistFault.{NetlistFault}
+use Rattle.pim_top.specs.declared.netlist.NetlistFault.TheVariants.{Aiger, Blif}
 use Rattle.pim_top.specs.declared.refusal.Limit.{Limit}
+use Rattle.pim_top.specs.declared.refusal.Origin.TheVariants as origin
 use Rattle.pim_top.specs.declared.refusal.Limit.TheVariants as limit
 use Rattle.pim_top.specs.declared.refusal.Refusal.{Refusal}
 use Rattle.pim_top.specs.declared.refusal.Refusal.TheVariants as refusal
@@ -24,6 +33,8 @@ cycle_labels names (s ∷ ss) = (codes " " ++ label_of names s) ++ cycle_labels 
 abbrev pub limit_word : Limit → List ℕ
 limit_word limit.Bytes = codes "bytes"
 limit_word limit.Nodes = codes "nodes"
+limit_word limit.Rows = codes "rows"
+limit_word limit.Cells = codes "cells"
 limit_word (limit.Netlist kind.Signals) = codes "signals"
 limit_word (limit.Netlist kind.Outputs) = codes "outputs"
 limit_word (limit.Netlist kind.Name) = codes "name"
@@ -48,15 +59,50 @@ aiger_detail (aiger.Net fault names) = net_detail fault names
 aiger_detail (aiger.TooLarge kind) = []
 aiger_detail aiger.NoMemory = []
 
+-- what is wrong with a BLIF file
+abbrev pub blif_detail : BlifFault → List ℕ
+blif_detail (blif.Syntax line) = codes "blif line " ++ (decimal line ++ codes ": syntax")
+blif_detail (blif.Unsupported line name) = codes "blif line " ++ (decimal line ++ (codes ": unsupported " ++ name))
+blif_detail (blif.RowWidth line) = codes "blif line " ++ (decimal line ++ codes ": row width")
+blif_detail (blif.MixedPhase line) = codes "blif line " ++ (decimal line ++ codes ": mixed phase")
+blif_detail (blif.TwiceInput line) = codes "blif line " ++ (decimal line ++ codes ": input twice")
+blif_detail (blif.Net fault names) = net_detail fault names
+blif_detail (blif.TooLarge kind) = []
+blif_detail blif.NoMemory = []
+
+-- what is wrong with a netlist's file
+abbrev pub netlist_detail : NetlistFault → List ℕ
+netlist_detail (Aiger fault) = aiger_detail fault
+netlist_detail (Blif fault) = blif_detail fault
+
+-- what is wrong with a program
+abbrev pub invalid_detail : Invalid → List ℕ
+invalid_detail (invalid.CellRange k) = codes "program instruction " ++ (decimal k ++ codes " cell range")
+invalid_detail (invalid.TargetRead k) = codes "program instruction " ++ (decimal k ++ codes " reads its target")
+invalid_detail (invalid.WrongTarget k) = codes "program instruction " ++ (decimal k ++ codes " wrong target")
+invalid_detail (invalid.InitList k) = codes "program instruction " ++ (decimal k ++ codes " init list")
+invalid_detail (invalid.Port k) = codes "program port " ++ decimal k
+
+-- what is wrong with a program file
+abbrev pub file_detail : FileFault → List ℕ
+file_detail (file.Line n) = codes "program line " ++ decimal n
+file_detail (file.Invalid fault) = invalid_detail fault
+file_detail file.Truncated = codes "program truncated"
+file_detail file.TooLarge = []
+file_detail file.NoMemory = []
+
 -- the text of a note
 abbrev pub note_text : Refusal → List ℕ
 note_text refusal.Usage = codes "usage"
-note_text refusal.ReadFault = codes "read fault: input"
+note_text (refusal.ReadFault origin.Program) = codes "read fault: program"
+note_text (refusal.ReadFault origin.Input) = codes "read fault: input"
 note_text refusal.WriteFault = codes "write fault"
 note_text refusal.NoMemory = codes "no memory"
 note_text (refusal.TooFewCells needed) = codes "too few cells: needed " ++ decimal needed
 note_text (refusal.TooLarge limit) = codes "too large: " ++ limit_word limit
-note_text (refusal.Aiger fault) = codes "bad input: " ++ aiger_detail fault
+note_text (refusal.Netlist fault) = codes "bad input: " ++ netlist_detail fault
+note_text (refusal.File fault) = codes "bad input: " ++ file_detail fault
+note_text (refusal.Vector n) = codes "bad input: vector line " ++ decimal n
 
 -- the line
 abbrev pub note : Refusal → List ℕ

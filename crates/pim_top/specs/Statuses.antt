@@ -9,12 +9,14 @@ use Rattle.pim_top.specs.declared.status.Status.TheVariants as status
 -- the status that a refusal ends with
 abbrev pub status_of : Refusal → Status
 status_of refusal.Usage = status.Usage
-status_of refusal.ReadFault = status.ReadFault
+status_of (refusal.ReadFault origin) = status.ReadFault
 status_of refusal.WriteFault = status.WriteFault
 status_of refusal.NoMemory = status.NoMemory
 status_of (refusal.TooFewCells needed) = status.TooFewCells
 status_of (refusal.TooLarge limit) = status.TooLarge
-status_of (refusal.Aiger fault) = status.BadInput
+status_of (refusal.Netlist fault) = status.BadInput
+status_of (refusal.File fault) = status.BadInput
+status_of (refusal.Vector n) = status.BadInput
 
 -- the refusal of words
 abbrev pub words_refusal : WordsFault → Refusal
@@ -24,9 +26,11 @@ words_refusal fault.NoMemory = refusal.NoMemory
 -- a refusal that has to do with neither the words nor the outside
 abbrev pub IsInner : Refusal → Type 0
 IsInner refusal.Usage = ⊥
-IsInner refusal.ReadFault = ⊥
+IsInner (refusal.ReadFault origin) = ⊥
 IsInner refusal.WriteFault = ⊥
 IsInner refusal.NoMemory = Unit {0}
 IsInner (refusal.TooFewCells needed) = Unit {0}
 IsInner (refusal.TooLarge limit) = Unit {0}
-IsInner (refusal.Aiger fault) = Unit {0}
+IsInner (refusal.Netlist fault) = Unit {0}
+IsInner (refusal.File fault) = Unit {0}
+IsInner (refusal.Vector n) = Unit {0}

@@ -3,10 +3,13 @@
 #![tactic(auto)]
 
 mod commands;
+mod input;
+mod netlist;
 mod note;
 mod refusal;
 mod status;
 mod top;
+mod walk;
 
 pub use pim_words::program_word;
 pub use status::Status;

@@ -1,11 +1,15 @@
 //! The one line that a refusal writes to the notes.
 ghost use Rattle.std.specs.Prelude.{◌≡◌, ◌≤◌, ◌++◌, OnErr, OnOk, codes, decimal};
 ghost use Rattle.pim_io.specs.Outside.{Rose, TookAll, TookFirst};
-ghost use Rattle.pim_top.specs.Notes.{aiger_detail, cycle_labels, label_of, limit_word, net_detail, note, IsNoted};
+ghost use Rattle.pim_top.specs.Notes.{aiger_detail, blif_detail, cycle_labels, file_detail, invalid_detail, label_of, limit_word, net_detail, note, IsNoted};
 
-use crate::refusal::{Limit, Refusal};
+use crate::netlist::NetlistFault;
+use crate::refusal::{Limit, Origin, Refusal};
 use itoa::Buffer;
 use pim_aiger::AigerFault;
+use pim_blif::BlifFault;
+use pim_file::FileFault;
+use pim_isa::Invalid;
 use pim_io::{Sink, SinkFault, write_all};
 use pim_net::{Kind, Names, NetFault};
 
@@ -25,15 +29,116 @@ fn write_note<E: Sink>(refusal: &Refusal, notes: &mut E) -> Result<(), SinkFault
 {
     match refusal {
         Refusal::Usage => write_all(notes, b"pim: usage\n"),
-        Refusal::ReadFault => write_all(notes, b"pim: read fault: input\n"),
+        Refusal::ReadFault(Origin::Program) => write_all(notes, b"pim: read fault: program\n"),
+        Refusal::ReadFault(Origin::Input) => write_all(notes, b"pim: read fault: input\n"),
         Refusal::WriteFault => write_all(notes, b"pim: write fault\n"),
         Refusal::NoMemory => write_all(notes, b"pim: no memory\n"),
         Refusal::TooFewCells { needed } => {
             write_counted(notes, b"pim: too few cells: needed ", *needed)
         }
         Refusal::TooLarge(limit) => write_line(notes, b"pim: too large: ", limit_word(*limit)),
-        Refusal::Aiger(fault) => write_aiger(notes, fault),
+        Refusal::Netlist(NetlistFault::Aiger(fault)) => write_aiger(notes, fault),
+        Refusal::Netlist(NetlistFault::Blif(fault)) => write_blif(notes, fault),
+        Refusal::File(fault) => write_file(notes, *fault),
+        Refusal::Vector(line) => write_counted(notes, b"pim: bad input: vector line ", *line),
     }
+}
+
+/// Writes the fault of a BLIF file with its line, or that of its netlist with the signals' labels.
+fn write_blif<E: Sink>(notes: &mut E, fault: &BlifFault) -> Result<(), SinkFault>
+    ensures whole { OnOk result (TookAll (E.taken notes.old) (E.taken notes.new)
+        (codes "pim: bad input: " ++ (blif_detail fault.now ++ codes "\n"))) }
+    ensures prefix { OnErr result (TookFirst (E.taken notes.old) (E.taken notes.new)
+        (codes "pim: bad input: " ++ (blif_detail fault.now ++ codes "\n"))) }
+    ensures counted { OnErr result (Rose (E.faults notes.old) (E.faults notes.new)) }
+{
+    match fault {
+        BlifFault::Syntax(line) => write_at_line(notes, *line, b": syntax"),
+        BlifFault::Unsupported(line, name) => write_unsupported(notes, *line, name.bytes()),
+        BlifFault::RowWidth(line) => write_at_line(notes, *line, b": row width"),
+        BlifFault::MixedPhase(line) => write_at_line(notes, *line, b": mixed phase"),
+        BlifFault::TwiceInput(line) => write_at_line(notes, *line, b": input twice"),
+        BlifFault::Net(fault, names) => write_net(notes, fault, names),
+        BlifFault::TooLarge(_) => write_all(notes, b"pim: bad input: \n"),
+        BlifFault::NoMemory => write_all(notes, b"pim: bad input: \n"),
+    }
+}
+
+/// Writes what is wrong in a line of a BLIF file.
+fn write_at_line<E: Sink>(notes: &mut E, line: u32, text: &[u8]) -> Result<(), SinkFault>
+    ensures whole { OnOk result (TookAll (E.taken notes.old) (E.taken notes.new)
+        (codes "pim: bad input: " ++ ((codes "blif line " ++ (decimal line ++ text.now)) ++ codes "\n"))) }
+    ensures prefix { OnErr result (TookFirst (E.taken notes.old) (E.taken notes.new)
+        (codes "pim: bad input: " ++ ((codes "blif line " ++ (decimal line ++ text.now)) ++ codes "\n"))) }
+    ensures counted { OnErr result (Rose (E.faults notes.old) (E.faults notes.new)) }
+{
+    let mut digits = Buffer::new();
+    write_all(notes, b"pim: bad input: blif line ")?;
+    write_line(notes, digits.format(line).as_bytes(), text)?;
+    Ok(())
+}
+
+/// Writes that a directive in a line of a BLIF file is not supported.
+fn write_unsupported<E: Sink>(notes: &mut E, line: u32, label: &[u8]) -> Result<(), SinkFault>
+    ensures whole { OnOk result (TookAll (E.taken notes.old) (E.taken notes.new)
+        (codes "pim: bad input: " ++ ((codes "blif line " ++ (decimal line ++ (codes ": unsupported " ++ label.now))) ++ codes "\n"))) }
+    ensures prefix { OnErr result (TookFirst (E.taken notes.old) (E.taken notes.new)
+        (codes "pim: bad input: " ++ ((codes "blif line " ++ (decimal line ++ (codes ": unsupported " ++ label.now))) ++ codes "\n"))) }
+    ensures counted { OnErr result (Rose (E.faults notes.old) (E.faults notes.new)) }
+{
+    let mut digits = Buffer::new();
+    write_all(notes, b"pim: bad input: blif line ")?;
+    write_all(notes, digits.format(line).as_bytes())?;
+    write_line(notes, b": unsupported ", label)?;
+    Ok(())
+}
+
+/// Writes the fault of a program file with its line, or that of its program.
+fn write_file<E: Sink>(notes: &mut E, fault: FileFault) -> Result<(), SinkFault>
+    ensures whole { OnOk result (TookAll (E.taken notes.old) (E.taken notes.new)
+        (codes "pim: bad input: " ++ (file_detail fault ++ codes "\n"))) }
+    ensures prefix { OnErr result (TookFirst (E.taken notes.old) (E.taken notes.new)
+        (codes "pim: bad input: " ++ (file_detail fault ++ codes "\n"))) }
+    ensures counted { OnErr result (Rose (E.faults notes.old) (E.faults notes.new)) }
+{
+    match fault {
+        FileFault::Line(line) => write_counted(notes, b"pim: bad input: program line ", line),
+        FileFault::Invalid(fault) => write_invalid(notes, fault),
+        FileFault::Truncated => write_all(notes, b"pim: bad input: program truncated\n"),
+        FileFault::TooLarge => write_all(notes, b"pim: bad input: \n"),
+        FileFault::NoMemory => write_all(notes, b"pim: bad input: \n"),
+    }
+}
+
+/// Writes why a program is not valid, with the instruction or the port.
+fn write_invalid<E: Sink>(notes: &mut E, fault: Invalid) -> Result<(), SinkFault>
+    ensures whole { OnOk result (TookAll (E.taken notes.old) (E.taken notes.new)
+        (codes "pim: bad input: " ++ (invalid_detail fault ++ codes "\n"))) }
+    ensures prefix { OnErr result (TookFirst (E.taken notes.old) (E.taken notes.new)
+        (codes "pim: bad input: " ++ (invalid_detail fault ++ codes "\n"))) }
+    ensures counted { OnErr result (Rose (E.faults notes.old) (E.faults notes.new)) }
+{
+    match fault {
+        Invalid::CellRange(k) => write_instruction(notes, k, b" cell range"),
+        Invalid::TargetRead(k) => write_instruction(notes, k, b" reads its target"),
+        Invalid::WrongTarget(k) => write_instruction(notes, k, b" wrong target"),
+        Invalid::InitList(k) => write_instruction(notes, k, b" init list"),
+        Invalid::Port(k) => write_counted(notes, b"pim: bad input: program port ", k),
+    }
+}
+
+/// Writes what is wrong with an instruction.
+fn write_instruction<E: Sink>(notes: &mut E, number: u32, text: &[u8]) -> Result<(), SinkFault>
+    ensures whole { OnOk result (TookAll (E.taken notes.old) (E.taken notes.new)
+        (codes "pim: bad input: " ++ ((codes "program instruction " ++ (decimal number ++ text.now)) ++ codes "\n"))) }
+    ensures prefix { OnErr result (TookFirst (E.taken notes.old) (E.taken notes.new)
+        (codes "pim: bad input: " ++ ((codes "program instruction " ++ (decimal number ++ text.now)) ++ codes "\n"))) }
+    ensures counted { OnErr result (Rose (E.faults notes.old) (E.faults notes.new)) }
+{
+    let mut digits = Buffer::new();
+    write_all(notes, b"pim: bad input: program instruction ")?;
+    write_line(notes, digits.format(number).as_bytes(), text)?;
+    Ok(())
 }
 
 /// Writes the fault of an AIGER file with its byte place, or that of its netlist with the signals' labels.
@@ -172,6 +277,8 @@ fn limit_word(limit: Limit) -> &'static [u8]
     match limit {
         Limit::Bytes => b"bytes",
         Limit::Nodes => b"nodes",
+        Limit::Rows => b"rows",
+        Limit::Cells => b"cells",
         Limit::Netlist(Kind::Signals) => b"signals",
         Limit::Netlist(Kind::Outputs) => b"outputs",
         Limit::Netlist(Kind::Name) => b"name",

@@ -1,10 +1,13 @@
 //! Why a command wrote nothing, with the evidence that its note names.
 ghost use Rattle.std.specs.Prelude.{◌≡◌};
 ghost use Rattle.pim_top.specs.Statuses.{status_of, words_refusal, IsInner};
-ghost use Rattle.pim_top.specs.Refusals.{aiger_refusal};
+ghost use Rattle.pim_top.specs.Refusals.{aiger_refusal, blif_refusal, file_refusal, netlist_refusal};
 
 use crate::Status;
+use crate::netlist::NetlistFault;
 use pim_aiger::AigerFault;
+use pim_blif::BlifFault;
+use pim_file::FileFault;
 use pim_net::{Kind, NetFault};
 use pim_words::WordsFault;
 
@@ -15,21 +18,36 @@ pub enum Limit {
     Bytes,
     /// The AND nodes of the flat graph.
     Nodes,
+    /// The lines of vectors.
+    Rows,
+    /// The cells of a program file.
+    Cells,
     /// A count or a length that the reader of the netlist judges.
     Netlist(Kind),
+}
+
+/// Which source could not be read.
+#[derive(Clone, Copy, Debug, PartialEq, Eq)]
+pub enum Origin {
+    Program,
+    Input,
 }
 
 /// Why a command ended without its text, with the place or number that the note names.
 #[derive(Debug, Drop)]
 pub enum Refusal {
     Usage,
-    ReadFault,
+    ReadFault(Origin),
     WriteFault,
     NoMemory,
     TooFewCells { needed: u32 },
     TooLarge(Limit),
-    /// A fault of an AIGER file that is neither a limit nor want of memory.
-    Aiger(AigerFault),
+    /// A fault of a netlist's file that is neither a limit nor want of memory.
+    Netlist(NetlistFault),
+    /// A fault of a program file that is neither a limit nor want of memory.
+    File(FileFault),
+    /// The line of this number, from 1, is no vector of the program's inputs.
+    Vector(u32),
 }
 
 impl Refusal {
@@ -39,12 +57,12 @@ impl Refusal {
     {
         match self {
             Refusal::Usage => Status::Usage,
-            Refusal::ReadFault => Status::ReadFault,
+            Refusal::ReadFault(_) => Status::ReadFault,
             Refusal::WriteFault => Status::WriteFault,
             Refusal::NoMemory => Status::NoMemory,
             Refusal::TooFewCells { .. } => Status::TooFewCells,
             Refusal::TooLarge(_) => Status::TooLarge,
-            Refusal::Aiger(_) => Status::BadInput,
+            Refusal::Netlist(_) | Refusal::File(_) | Refusal::Vector(_) => Status::BadInput,
         }
     }
 
@@ -58,15 +76,50 @@ impl Refusal {
         }
     }
 
-    /// The refusal that a fault of an AIGER file comes to: a limit and want of memory have statuses of their own.
-    pub fn of_aiger(fault: AigerFault) -> Refusal
+    /// The refusal that a fault of a netlist's file comes to: a limit and want of memory have statuses of their own.
+    pub fn of_netlist(fault: NetlistFault) -> Refusal
+        ensures value { result ≡ netlist_refusal fault }
+        ensures inner { IsInner result }
+    {
+        match fault {
+            NetlistFault::Aiger(fault) => Refusal::of_aiger(fault),
+            NetlistFault::Blif(fault) => Refusal::of_blif(fault),
+        }
+    }
+
+    /// The refusal that a fault of an AIGER file comes to.
+    fn of_aiger(fault: AigerFault) -> Refusal
         ensures value { result ≡ aiger_refusal fault }
         ensures inner { IsInner result }
     {
         match fault {
             AigerFault::TooLarge(kind) => Refusal::TooLarge(Limit::Netlist(kind)),
             AigerFault::NoMemory | AigerFault::Net(NetFault::NoMemory, _) => Refusal::NoMemory,
-            fault => Refusal::Aiger(fault),
+            fault => Refusal::Netlist(NetlistFault::Aiger(fault)),
+        }
+    }
+
+    /// The refusal that a fault of a BLIF file comes to.
+    fn of_blif(fault: BlifFault) -> Refusal
+        ensures value { result ≡ blif_refusal fault }
+        ensures inner { IsInner result }
+    {
+        match fault {
+            BlifFault::TooLarge(kind) => Refusal::TooLarge(Limit::Netlist(kind)),
+            BlifFault::NoMemory | BlifFault::Net(NetFault::NoMemory, _) => Refusal::NoMemory,
+            fault => Refusal::Netlist(NetlistFault::Blif(fault)),
+        }
+    }
+
+    /// The refusal that a fault of a program file comes to.
+    pub fn of_file(fault: FileFault) -> Refusal
+        ensures value { result ≡ file_refusal fault }
+        ensures inner { IsInner result }
+    {
+        match fault {
+            FileFault::TooLarge => Refusal::TooLarge(Limit::Cells),
+            FileFault::NoMemory => Refusal::NoMemory,
+            fault => Refusal::File(fault),
         }
     }
 }

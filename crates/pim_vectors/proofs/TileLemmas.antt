@@ -6,13 +6,17 @@ use Rattle.std.proofs.lemmas.Bool.{cases_eq, cases_lt, eq-eqb, ne_eqb, lt-ltb}
 use Rattle.std.proofs.lemmas.List.{get_or-set_same, get_or-set_other, get_or-take, get_or-drop, get_or-map, get_or-replicate, get_or-append-add, get_or_append_left, length-map, length-replicate, length-append, length-drop, length-set, length-take-le, take-append-le, take_all, ext_get_or}
 use Rattle.std.proofs.lemmas.List.FromFn.{length-map-range_with_len, get_or-map-range_with_len}
 use Rattle.std.proofs.lemmas.Nat.Bits.{shr_and_one, bit_at_set_same, bit_at_set_other, bit_at_clear_same, bit_at_clear_other, bit_at-zero}
-use Rattle.pim_vectors.specs.Tiles.{TileView, is_set, lane, column_in, lane_at, column_of, with_words, with_column, row_of, IsRow, IsTile, bits_of, digit_of, line_of}
+use Rattle.pim_io.specs.Lanes.{is_set, lane, column_in}
+use Rattle.pim_io.specs.Bits.{bits_of, digit_of, line_of}
+use Rattle.pim_vectors.specs.Tiles.{TileView, lane_at, column_of, with_words, with_column, row_of, IsRow, IsTile}
 
 -- ---- one bit of a word
 pub is_set-shifted : (n i : ℕ) → eqb (bit_and (n / 2 ^ i) 1) 1 ≡ is_set n i
+unfolding is_set
 is_set-shifted n i = ap (λ (b : ℕ). eqb b 1) (shr_and_one n i)
 
 pub is_set-set : (n k i : ℕ) → k < 64 → is_set (bit_or n (1 * 2 ^ k % 2 ^ 64)) i ≡ cond (eqb i k) true (is_set n i)
+unfolding is_set
 is_set-set n k i within =
     elim (cases_eq i k) [
       | inl same ↦ rw (eq-eqb i k same) (ap (λ (j : ℕ). eqb (bit_at (bit_or n (1 * 2 ^ k % 2 ^ 64)) j) 1) same ∙ ap (λ (b : ℕ). eqb b 1) (bit_at_set_same w64 n k within))
@@ -20,6 +24,7 @@ is_set-set n k i within =
     ]
 
 pub is_set-clear : (n k i : ℕ) → k < 64 → i < 64 → is_set (bit_and n (2 ^ 64 - 1 - (1 * 2 ^ k % 2 ^ 64))) i ≡ cond (eqb i k) false (is_set n i)
+unfolding is_set
 is_set-clear n k i within small =
     elim (cases_eq i k) [
       | inl same ↦ rw (eq-eqb i k same) (ap (λ (j : ℕ). eqb (bit_at (bit_and n (2 ^ 64 - 1 - (1 * 2 ^ k % 2 ^ 64))) j) 1) same ∙ ap (λ (b : ℕ). eqb b 1) (bit_at_clear_same w64 n k within))
@@ -27,6 +32,7 @@ is_set-clear n k i within small =
     ]
 
 is_set-zero : (i : ℕ) → is_set 0 i ≡ false
+unfolding is_set
 is_set-zero i = ap (λ (b : ℕ). eqb b 1) (bit_at-zero i)
 
 -- ---- places of columns
@@ -49,7 +55,7 @@ same_column w c k i j p q e =
 
 -- a lane of a column's words
 pub lane-column : (w : ℕ) (buffer : List ℕ) (c r : ℕ) → r < 64 * w → lane (column_in w buffer c) r ≡ lane_at w buffer c r
-unfolding column_in
+unfolding lane lane_at column_in
 lane-column w buffer c r small =
     ap (λ (n : ℕ). is_set n (r % 64)) (get_or-take w (drop (c * w) buffer) (r / 64) 0 (omega arith) ∙ get_or-drop (c * w) buffer (r / 64) 0)
 
@@ -57,6 +63,7 @@ lane-column w buffer c r small =
 pub lane_at-set : (w : ℕ) (buffer : List ℕ) (k row word : ℕ) (b : Bool) → row < 64 * w → k * w + w ≤ length buffer →
     ((i : ℕ) → i < 64 → is_set word i ≡ cond (eqb i (row % 64)) b (is_set (get_or buffer (k * w + row / 64) 0) i)) →
     (c r : ℕ) → r < 64 * w → lane_at w (set buffer (k * w + row / 64) word) c r ≡ cond (eqb c k && eqb r row) b (lane_at w buffer c r)
+unfolding lane_at
 lane_at-set w buffer k row word b row_small within bits c r small = by_cases (cases_eq (c * w + r / 64) (k * w + row / 64))
   where
     at : ℕ
@@ -150,6 +157,7 @@ unpacked view t buffer n row is buffer_is =
 -- a new tile
 pub new_rows : (columns w : ℕ) (items : List ℕ) → items ≡ replicate (columns * w) 0 → (r : ℕ) → r < 64 * w →
     row_of (record { columns = columns; words = w; buffer = items }) r ≡ replicate columns false
+unfolding lane_at
 new_rows columns w items is r small =
     row_from_lanes (record { columns = columns; words = w; buffer = items }) r (replicate columns false) small (length-replicate columns false)
     (λ c within.
@@ -168,6 +176,7 @@ column_in_slice w xs c start e =
 -- a column was written
 pub lane_at-put : (w k : ℕ) (buffer new : List ℕ) (start : ℕ) → start ≡ k * w → k * w + w ≤ length buffer → length new ≡ w →
     (c r : ℕ) → r < 64 * w → lane_at w (take start buffer ++ (new ++ drop w (drop start buffer))) c r ≡ cond (eqb c k) (lane new r) (lane_at w buffer c r)
+unfolding lane lane_at
 lane_at-put w k buffer new start e within long c r small = by_cases (cases_eq c k)
   where
     i : ℕ

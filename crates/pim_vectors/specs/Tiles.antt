@@ -1,22 +1,10 @@
 -- Vectors as rows of a tile: a column of words for each place of a vector, with a lane for each row.
-use Rattle.std.specs.Prelude.{◌≡◌, ℕ, ◌+◌, ◌*◌, ◌/◌, ◌%◌, ◌<◌, ◌≤◌, ◌==◌, ◌⊎◌, Bool, if◌then◌else◌, List, ◌++◌, length, take, drop, map, slice_index, All}
+use Rattle.std.specs.Prelude.{◌≡◌, ℕ, ◌+◌, ◌*◌, ◌/◌, ◌%◌, ◌<◌, ◌≤◌, ◌⊎◌, Bool, List, ◌++◌, length, take, drop, map, slice_index, All}
 use Rattle.std.specs.List.{range_with_len}
-use Rattle.std.specs.Int.{bit_at}
+use Rattle.pim_io.specs.Lanes.{is_set, lane, column_in}
 
--- bit i of a word is one
-abbrev pub is_set : ℕ → ℕ → Bool
-is_set n i = bit_at n i == 1
-
--- lane r of the words is bit r mod 64 of word r / 64, and false past them
-abbrev pub lane : List ℕ → ℕ → Bool
-lane words r = is_set (slice_index words (r / 64)) (r % 64)
-
--- column c of columns of so many words that stand one after another
-unfoldable pub column_in : ℕ → List ℕ → ℕ → List ℕ
-column_in words buffer c = take words (drop (c * words) buffer)
-
--- lane r of column c in such a list
-abbrev pub lane_at : ℕ → List ℕ → ℕ → ℕ → Bool
+-- lane r of column c in columns of so many words that stand one after another
+unfoldable pub lane_at : ℕ → List ℕ → ℕ → ℕ → Bool
 lane_at words buffer c r = is_set (slice_index buffer (c * words + r / 64)) (r % 64)
 
 -- the number of columns, the words of each, and the words of all, one column after another
@@ -59,15 +47,3 @@ pub record IsTile (t : TileView) : Type 0 where
 -- a line of so many characters, each of them 0 or 1
 abbrev pub IsVector : ℕ → List ℕ → Type 0
 IsVector inputs line = (length line ≡ inputs) × All (λ b. (b ≡ 48) ⊎ (b ≡ 49)) line
-
--- the bits of a line of the characters 0 and 1
-abbrev pub bits_of : List ℕ → List Bool
-bits_of line = map (λ b. b == 49) line
-
--- the character of a bit
-abbrev pub digit_of : Bool → ℕ
-digit_of bit = if bit then 49 else 48
-
--- the line of bits
-abbrev pub line_of : List Bool → List ℕ
-line_of bits = map digit_of bits

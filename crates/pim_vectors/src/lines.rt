@@ -67,6 +67,14 @@ impl Lines {
         })
     }
 
+    /// How many lines were handed out, at most `MAX_LINES`.
+    pub fn given(&self) -> u32
+        ensures given { result ≡ self.now.given }
+        ensures within { result ≤ MAX_LINES }
+    {
+        self.given
+    }
+
     /// The next line, without its newline and a carriage return before that, or None at the end of the source. All lines that
     /// were taken are handed out before more bytes are. A last piece without a newline is a line, if it isn't empty. The faults:
     /// `Long` of a line of more bytes than the longest, once its end or two more than the longest of its bytes were taken; `TooMany`

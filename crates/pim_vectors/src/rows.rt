@@ -1,6 +1,8 @@
 ghost use Rattle.std.specs.Prelude.{◌≡◌, ℕ, ◌+◌, ◌*◌, ◌/◌, ◌%◌, ◌<◌, ◌≤◌, ◌==◌, ◌&&◌, nat_lt, if◌then◌else◌, length, map, slice_index};
 ghost use Rattle.std.specs.List.{range_with_len};
-ghost use Rattle.pim_vectors.specs.Tiles.{is_set, lane, lane_at, digit_of};
+ghost use Rattle.pim_io.specs.Lanes.{is_set, lane};
+ghost use Rattle.pim_io.specs.Bits.{digit_of};
+ghost use Rattle.pim_vectors.specs.Tiles.{lane_at};
 
 /// A word with one bit written.
 fn with_bit(word: u64, place: u32, bit: bool) -> u64

@@ -1,5 +1,7 @@
 ghost use Rattle.std.specs.Prelude.{◌≡◌, ℕ, ◌+◌, ◌*◌, ◌<◌, ◌≤◌, ◌==◌, if◌then◌else◌, false, List, length, replicate, slice_index_or, slice_set, IfOk};
-ghost use Rattle.pim_vectors.specs.Tiles.{lane, column_of, with_column, row_of, IsRow, IsTile, IsVector, SameSizes, bits_of, line_of};
+ghost use Rattle.pim_io.specs.Bits.{bits_of, line_of};
+ghost use Rattle.pim_io.specs.Lanes.{lane};
+ghost use Rattle.pim_vectors.specs.Tiles.{column_of, with_column, row_of, IsRow, IsTile, IsVector, SameSizes};
 
 use crate::rows;
 use pim_io::NoMemory;

@@ -1,6 +1,6 @@
 -- The command line of `compile` refuses and reads as its definition does, and gives a number of cells.
 use Rattle.std.proofs.Common.{◌≡◌, ◌∙◌, ◌≤◌, ◌<◌, ◌==◌, ◌++◌, ◌⊎◌, ℕ, Bool, List, [], ◌∷◌, length, drop, cond, refl, sym, ap, ap₂, subst, true, false, zero, suc, inl, inr, arith, codes, pos}
-use Rattle.std.specs.Prelude.{Some, None, is_some, unwrap_or}
+use Rattle.std.specs.Prelude.{Some, None, unwrap_or}
 use Rattle.std.specs.Borrow.{Bor}
 use Rattle.std.specs.List.{All, slice_index_or}
 use Rattle.std.specs.Str.{bytes_eq}
@@ -10,21 +10,18 @@ use Rattle.std.proofs.lemmas.Int.{ints}
 use Rattle.std.proofs.lemmas.List.Elements.{All-nil}
 use Rattle.std.proofs.lemmas.Str.Parse.{digit_from_value}
 use Rattle.clap.specs.Facts.{args_of, groups_of, least_values}
-use Rattle.clap.specs.Faults.{built_fault, entered_fault, fault_of}
-use Rattle.clap.specs.Faults.{level_fault}
 use Rattle.clap.specs.Lexer.{without_minus}
 use Rattle.clap.specs.Matches.{found_of, one_text}
 use Rattle.clap.specs.Built.{AddsArg, IsParsedFrom, IsPlain, IsPlainArg}
-use Rattle.clap.specs.Simple.{App, Shape, app_of, built, entered, matches_of, new_app, with_rule}
+use Rattle.clap.specs.Simple.{app_of, built, new_app, with_rule}
 use Rattle.clap.specs.Values.{IsSignedIn}
-use Rattle.clap.specs.Walk.{Held, Rule, Text, Walk, nothing_held, rule_of, texts, walk}
+use Rattle.clap.specs.Walk.{Rule, Text, texts}
 use Rattle.clap.specs.declared.builder.action.ArgAction.TheVariants.{Set}
 use Rattle.clap.specs.declared.builder.arg.Arg.{Arg}
 use Rattle.clap.specs.declared.builder.command.Command.{Command}
 use Rattle.clap.specs.declared.builder.command.Command.TheViews.{out-Command}
 use Rattle.clap.specs.declared.builder.value_parser.ValueParser.{ValueParser}
 use Rattle.clap.specs.declared.builder.value_parser.ValueParser.TheVariants as vp
-use Rattle.clap.specs.declared.builder.texts.Texts.TheVariants.{One}
 use Rattle.clap.specs.declared.parser.matches.ArgMatches.{ArgMatches}
 use Rattle.clap.proofs.CallerLemmas.{added_plain}
 use Rattle.clap.proofs.CallerReads.{required_reads}
@@ -32,38 +29,16 @@ use Rattle.pim_words.specs.Lines.{compile_by, compile_line, one_of_names, option
 use Rattle.pim_words.specs.Matches.{HasCells}
 use Rattle.pim_words.specs.Options.{HasRule}
 use Rattle.pim_words.specs.Reading.{ReadsAlike}
-use Rattle.pim_words.proofs.NamesFaults.{bare_shape, level_fault-bare}
-use Rattle.pim_words.proofs.NamesWalk.{bare_parser, rows_after-bare, walk-bare}
+use Rattle.pim_words.proofs.Alike.{IsBareOf, reads_alike}
 
 -- ---- the definition
 
-abbrev leaf : Shape → App
-leaf s = record { top = s; subs = [] }
-
-leaf_fault-bare : (s : Shape) (h : Held) (words : List Text) → built_fault (leaf (bare_shape s)) h words ≡ built_fault (leaf s) h words
-leaf_fault-bare s h words =
-    let fails = λ (w : Walk). level_fault (bare_shape s) [] h words (is_some (entered (leaf s) w.stopped)) (entered_fault (leaf s) w.stopped) in
-    let w = walk s.rules [] h words in
-    ap fails (walk-bare s.rules [] h words) ∙ level_fault-bare s [] h words (is_some (entered (leaf s) w.stopped)) (entered_fault (leaf s) w.stopped)
-
-abbrev top_of : ValueParser → ValueParser → Shape
-top_of targets levels = (built (compile_by targets levels)).top
-
-faults-bare : (p q : ValueParser) (words : List Text) → fault_of (compile_by (bare_parser p) (bare_parser q)) words ≡ fault_of (compile_by p q) words
-faults-bare p q words = leaf_fault-bare (top_of p q) nothing_held (drop 1 words)
-
-matches-bare : (p q : ValueParser) (words : List Text) → matches_of (compile_by (bare_parser p) (bare_parser q)) words ≡ matches_of (compile_by p q) words
-matches-bare p q words = rows_after-bare (top_of p q).rules [] (drop 1 words)
-
 pub compile_alike : (targets levels : Bor (List (Bor Text))) → texts targets.now ≡ codes "magic" ∷ [] → texts levels.now ≡ codes "0" ∷ []
     → ReadsAlike (compile_by (vp.Names targets) (vp.Names levels)) compile_line
-compile_alike targets levels target level = record {
-  simple = refl;
-  faults = λ words. sym (faults-bare (vp.Names targets) (vp.Names levels) words)
-      ∙ ap₂ (λ t l. fault_of (compile_by (one_of_names t) (one_of_names l)) words) target level;
-  matches = λ words. sym (matches-bare (vp.Names targets) (vp.Names levels) words)
-      ∙ ap₂ (λ t l. matches_of (compile_by (one_of_names t) (one_of_names l)) words) target level;
-}
+compile_alike targets levels target level =
+    let is_bare : IsBareOf (compile_by (vp.Names targets) (vp.Names levels)) (compile_by (one_of_names (texts targets.now)) (one_of_names (texts levels.now))) =
+    record { shape = (built (compile_by (vp.Names targets) (vp.Names levels))).top; from = refl; to = refl; words = λ ws. refl } in
+    reads_alike _ _ _ refl is_bare (ap₂ (λ t l. compile_by (one_of_names t) (one_of_names l)) target level)
 
 -- ---- the number of cells
 
@@ -103,24 +78,6 @@ number_read t passed = subst IsCells (sym (without_minus-cond t)) (go (starts_wi
         rw minus same
 
 -- ---- the arguments
-
-pub with_required : (r : Rule) (o a : Arg) → HasRule r o → a ≡ record o { required = true } → HasRule (required r) a
-with_required r o a has is = record {
-  reads = ap rule_of is ∙ ap required has.reads;
-  plain = subst IsPlainArg (sym is) has.plain;
-  local = ap (λ (x : Arg). x.global) is ∙ has.local;
-  undivided = ap (λ (x : Arg). x.val_delim) is ∙ has.undivided;
-  filled = subst (λ (x : Arg). 1 ≤ least_values x) (sym is) has.filled;
-}
-
-pub with_default : (r : Rule) (o a : Arg) (text : Bor Text) → HasRule r o → a ≡ record o { default_vals = One text } → HasRule (with_default_text text.now r) a
-with_default r o a text has is = record {
-  reads = ap rule_of is ∙ ap (with_default_text text.now) has.reads;
-  plain = subst IsPlainArg (sym is) has.plain;
-  local = ap (λ (x : Arg). x.global) is ∙ has.local;
-  undivided = ap (λ (x : Arg). x.val_delim) is ∙ has.undivided;
-  filled = subst (λ (x : Arg). 1 ≤ least_values x) (sym is) has.filled;
-}
 
 abbrev pub target_rule : ValueParser → Rule
 target_rule targets = required (option_of (codes "target") targets)

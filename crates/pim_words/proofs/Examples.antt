@@ -1,12 +1,13 @@
 -- Worked examples of the definitions: each computes.
-use Rattle.std.proofs.Common.{◌≡◌, List, [], ◌∷◌, false, refl, true, codes}
+use Rattle.std.proofs.Common.{◌≡◌, List, [], ◌∷◌, ◌++◌, false, refl, true, codes}
 use Rattle.std.specs.Prelude.{Some}
 use Rattle.clap.specs.Words.{Text}
 use Rattle.clap.proofs.OnLiterals.{clap_on_literals}
-use Rattle.pim_words.specs.Plain.{compile_words}
-use Rattle.pim_words.specs.Program.{program_word_of}
+use Rattle.pim_words.specs.Plain.{compile_words, fill_words, run_words}
+use Rattle.pim_words.specs.Program.{others, program_word_of}
 use Rattle.pim_words.specs.Reading.{command_said, is_usage}
-use Rattle.pim_words.specs.declared.command.Command.TheVariants.{Compile}
+use Rattle.pim_words.specs.declared.command.Command.TheVariants.{Compile, Run}
+use Rattle.pim_words.specs.declared.command.FillWord.TheVariants.{Ones, Zeros}
 use Rattle.pim_words.specs.declared.command.LevelWord.TheVariants.{Zero}
 use Rattle.pim_words.specs.declared.command.TargetWord.TheVariants.{Magic}
 
@@ -57,3 +58,54 @@ leading_zero = refl
 
 file_like_an_option : program_word_of (codes "run" ∷ codes "--help" ∷ []) ≡ Some (codes "--help")
 file_like_an_option = refl
+
+no_file : is_usage (codes "run" ∷ []) ≡ true
+no_file = refl
+
+not_built : is_usage (codes "list" ∷ codes "a" ∷ []) ≡ true
+not_built = refl
+
+without_file : others (codes "run" ∷ codes "--fill" ∷ codes "--fill" ∷ codes "ones" ∷ []) ≡ codes "run" ∷ codes "--fill" ∷ codes "ones" ∷ []
+without_file = refl
+
+run_said_alone : command_said (run_words (codes "a")) ≡ Some (Run Zeros)
+unfolding clap_on_literals
+run_said_alone = refl
+
+run_said_ones : command_said (run_words (codes "a") ++ fill_words Ones) ≡ Some (Run Ones)
+unfolding clap_on_literals
+run_said_ones = refl
+
+run_said_joined : command_said (codes "run" ∷ codes "a" ∷ codes "--fill=ones" ∷ []) ≡ Some (Run Ones)
+unfolding clap_on_literals
+run_said_joined = refl
+
+-- the file is the second word, so `--help` is a file's name there, and a wish for help behind it
+help_file : is_usage (codes "run" ∷ codes "--help" ∷ []) ≡ false
+unfolding clap_on_literals
+help_file = refl
+
+help_behind_file : is_usage (codes "run" ∷ codes "a" ∷ codes "--help" ∷ []) ≡ true
+unfolding clap_on_literals
+help_behind_file = refl
+
+-- so an option before the file is taken for the file, and its value for a word too many
+option_first : is_usage (codes "run" ∷ codes "--fill" ∷ codes "ones" ∷ codes "a" ∷ []) ≡ true
+unfolding clap_on_literals
+option_first = refl
+
+other_fill : is_usage (codes "run" ∷ codes "a" ∷ codes "--fill" ∷ codes "two" ∷ []) ≡ true
+unfolding clap_on_literals
+other_fill = refl
+
+fill_without_value : is_usage (codes "run" ∷ codes "a" ∷ codes "--fill" ∷ []) ≡ true
+unfolding clap_on_literals
+fill_without_value = refl
+
+fill_twice : is_usage (run_words (codes "a") ++ fill_words Ones ++ fill_words Ones) ≡ true
+unfolding clap_on_literals
+fill_twice = refl
+
+two_files : is_usage (codes "run" ∷ codes "a" ∷ codes "b" ∷ []) ≡ true
+unfolding clap_on_literals
+two_files = refl

@@ -1,5 +1,9 @@
 mod Examples
 pub mod NamesWalk
 pub mod NamesFaults
+pub mod Alike
+pub mod OptionRules
+pub mod Answered
 pub mod CompileLine
+pub mod FillLine
 pub mod PlainWords

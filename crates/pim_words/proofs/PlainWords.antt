@@ -19,10 +19,12 @@ use Rattle.clap.proofs.ValueTestLemmas.{Accepts-accepts}
 use Rattle.clap.proofs.OnLiterals.{clap_on_literals}
 use Rattle.pim_words.proofs.CompileLine.{no_plus}
 use Rattle.pim_words.specs.Lines.{compile_line}
-use Rattle.pim_words.specs.Plain.{IsPlain, compile_words, level_words}
-use Rattle.pim_words.specs.Reading.{compile_said, compile_with, number_of, refuses}
+use Rattle.pim_words.specs.Plain.{IsPlain, compile_words, fill_words, level_words, run_words}
+use Rattle.pim_words.specs.Reading.{command_said, compile_with, is_usage, number_of}
 use Rattle.pim_words.specs.declared.command.Command.{Command}
-use Rattle.pim_words.specs.declared.command.Command.TheVariants.{Compile}
+use Rattle.pim_words.specs.declared.command.Command.TheVariants.{Compile, Run}
+use Rattle.pim_words.specs.declared.command.FillWord.{FillWord}
+use Rattle.pim_words.specs.declared.command.FillWord.TheVariants.{Ones, Zeros}
 use Rattle.pim_words.specs.declared.fault.WordsFault.{WordsFault}
 use Rattle.pim_words.specs.declared.fault.WordsFault.TheVariants.{NoMemory, Usage}
 use Rattle.pim_words.specs.declared.command.LevelWord.TheVariants.{Zero}
@@ -87,34 +89,47 @@ taken (d ∷ ds) numeral small =
     let is : 48 + (d - 48) ≡ d = omega (arith, range) in
     subst TakesAt is (digit (d - 48) (omega (arith, range))) ds (number_taken (d ∷ ds) numeral small)
 
-IsTaken : Command → List Text → Type 0
-IsTaken c words = (refuses words compile_line ≡ false) × (compile_said words compile_line ≡ Some c)
+-- the words are no usage, and say the command
+abbrev IsTaken : Command → List Text → Type 0
+IsTaken c words = (is_usage words ≡ false) × (command_said words ≡ Some c)
 
-as_said : (n : ℕ) (words : List Text) → n ≤ 1048576 → Takes words (decimal n) → IsTaken (Compile Magic Zero n) words
-unfolding IsTaken
-as_said n words small takes =
+compile_words_taken : (n : ℕ) (rest : List Text) → n ≤ 1048576
+    → Takes (compile_words Magic (decimal n) ++ rest) (decimal n) → IsTaken (Compile Magic Zero n) (compile_words Magic (decimal n) ++ rest)
+compile_words_taken n rest small takes =
     let number = decimal_is_IsNumeral n (omega arith) in
     let same : number_of (decimal n) ≡ n = ap (digits_value 10) (no_plus (decimal n) number.0) ∙ number.1 in
     (ap (λ k. not (is_empty k)) takes.0, ap (option_map compile_with) takes.1 ∙ ap (λ m. Some (Compile Magic Zero m)) same)
 
-plain_taken : (c : Command) (words : List Text) → IsPlain c words → IsTaken c words
+run_taken : (file : Text) → IsTaken (Run Zeros) (run_words file)
+unfolding clap_on_literals
+run_taken file = (refl, refl)
+
+run_fill_taken : (fill : FillWord) (file : Text) → IsTaken (Run fill) (run_words file ++ fill_words fill)
+unfolding clap_on_literals
+run_fill_taken Zeros file = (refl, refl)
+run_fill_taken Ones file = (refl, refl)
+
+pub plain_taken : (c : Command) (words : List Text) → IsPlain c words → IsTaken c words
 plain_taken (Compile Magic Zero n) words plain =
     let number = decimal_is_IsNumeral n (omega (arith, plain.0)) in
     let both_ways = taken (decimal n) number.0 (subst (λ m. m ≤ 1048576) (sym number.1) plain.0) in
     elim plain.1 [
-      | inl way ↦ as_said n words plain.0 (subst (λ (ws : List Text). Takes ws (decimal n)) (sym way.1) both_ways.0)
-      | inr way ↦ as_said n words plain.0 (subst (λ (ws : List Text). Takes ws (decimal n)) (sym way) both_ways.1)
+      | inl way ↦ subst (IsTaken (Compile Magic Zero n)) (sym way.1) (compile_words_taken n [] plain.0 both_ways.0)
+      | inr way ↦ subst (IsTaken (Compile Magic Zero n)) (sym way) (compile_words_taken n (level_words Zero) plain.0 both_ways.1)
     ]
+plain_taken (Run fill) words plain = elim plain.1 [
+  | inl way ↦ subst (λ f. IsTaken (Run f) words) (sym way.0) (subst (IsTaken (Run Zeros)) (sym way.1) (run_taken plain.0))
+  | inr way ↦ subst (IsTaken (Run fill)) (sym way) (run_fill_taken fill plain.0)
+]
 
 -- so an answer to plain words is the command or a want of memory
-pub plain_answer : (r : Result Command WordsFault) (c : Command) (words : List Text) → IsPlain c words
-    → (r ≡ Err Usage → refuses words compile_line ≡ true) → IfOk r (λ x. compile_said words compile_line ≡ Some x)
+pub plain_answer : (r : Result Command WordsFault) (words : List Text) → (r ≡ Err Usage → is_usage words ≡ true)
+    → IfOk r (λ x. command_said words ≡ Some x) → (c : Command) → IsPlain c words
     → MatchResult r (λ x. x ≡ c) (λ e. e ≡ NoMemory)
-unfolding IsTaken
-plain_answer (Ok x) c words plain usage said =
+plain_answer (Ok x) words usage said c plain =
     let is : Some x ≡ Some c = sym said ∙ (plain_taken c words plain).1 in
     cc
-plain_answer (Err Usage) c words plain usage said =
+plain_answer (Err Usage) words usage said c plain =
     let bad : true ≡ false = sym (usage refl) ∙ (plain_taken c words plain).0 in
     cc
-plain_answer (Err NoMemory) c words plain usage said = refl
+plain_answer (Err NoMemory) words usage said c plain = refl

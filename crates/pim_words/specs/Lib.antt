@@ -4,3 +4,4 @@ pub mod Options
 pub mod Plain
 pub mod Program
 pub mod Reading
+pub mod Refusal

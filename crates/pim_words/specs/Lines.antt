@@ -1,8 +1,6 @@
 -- The command line of each command, as `clap` reads it.
-use Rattle.std.specs.Prelude.{List, [], ◌∷◌, Option, Some, None, map, pos, codes}
-use Rattle.std.specs.Prelude.{if◌then◌else◌, true}
+use Rattle.std.specs.Prelude.{List, [], ◌∷◌, Some, map, pos, codes, true}
 use Rattle.std.specs.Borrow.{Bor}
-use Rattle.std.specs.Str.{bytes_eq}
 use Rattle.clap.specs.Words.{App, Rule, Text, new_app, new_rule, with_rule}
 use Rattle.clap.specs.declared.builder.action.ArgAction.TheVariants.{Set}
 use Rattle.clap.specs.declared.builder.value_parser.ValueParser.{ValueParser}
@@ -41,6 +39,11 @@ abbrev pub compile_line : App
 compile_line =
     compile_by (one_of_names (codes "magic" ∷ [])) (one_of_names (codes "0" ∷ []))
 
--- the command line of the command with this name, where it is built
-abbrev pub cli : Text → Option App
-cli name = if bytes_eq name (codes "compile") then Some compile_line else None
+-- a command whose one option is `--fill`, by what that takes
+abbrev pub fill_by : Text → ValueParser → App
+fill_by name fills =
+    with_rule (new_app name) (with_default_text (codes "zeros") (option_of (codes "fill") fills))
+
+-- a command with `[--fill zeros|ones]` and nothing else, where no `--fill` is `--fill zeros`
+abbrev pub fill_line : Text → App
+fill_line name = fill_by name (one_of_names (codes "zeros" ∷ codes "ones" ∷ []))

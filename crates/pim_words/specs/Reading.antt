@@ -1,24 +1,25 @@
 -- What the words of a command come to.
-use Rattle.std.specs.Prelude.{◌≡◌, ◌≤◌, ℕ, Bool, true, false, not, List, [], ◌∷◌, Option, None}
-use Rattle.std.specs.Prelude.{codes, is_some, option_map, option_and_then}
+use Rattle.std.specs.Prelude.{◌≡◌, ◌≤◌, ◌||◌, ℕ, Bool, true, false, not, List, [], ◌∷◌, Option}
+use Rattle.std.specs.Prelude.{Some, None, codes, is_some, option_map, option_and_then}
+use Rattle.std.specs.Prelude.{if◌then◌else◌}
 use Rattle.std.specs.Option.{option_map_or}
+use Rattle.std.specs.Str.{bytes_eq}
 use Rattle.std.specs.Str.Parse.{digits_value, without_leading_plus}
 use Rattle.clap.specs.Walk.{is_empty}
-use Rattle.clap.specs.Words.{App, Text, fault_of, is_simple_and_free, matches_of, one_of}
-use Rattle.pim_words.specs.Lines.{cli}
+use Rattle.clap.specs.Words.{App, Row, Text, fault_of, first_of, is_simple_and_free, matches_of}
+use Rattle.clap.specs.Words.{one_of}
+use Rattle.pim_words.specs.Lines.{compile_line, fill_line}
+use Rattle.pim_words.specs.Program.{lacks_program, others}
 use Rattle.pim_words.specs.declared.command.Command.{Command}
-use Rattle.pim_words.specs.declared.command.Command.TheVariants.{Compile}
+use Rattle.pim_words.specs.declared.command.Command.TheVariants.{Compile, Run}
+use Rattle.pim_words.specs.declared.command.FillWord.{FillWord}
+use Rattle.pim_words.specs.declared.command.FillWord.TheVariants.{Ones, Zeros}
 use Rattle.pim_words.specs.declared.command.TargetWord.TheVariants.{Magic}
 use Rattle.pim_words.specs.declared.command.LevelWord.TheVariants.{Zero}
 
 -- the command line refuses the words, of which the first is the command's name
 abbrev pub refuses : List Text → App → Bool
 refuses words line = not (is_empty (fault_of line words))
-
--- there is no word, the command is not built, or its command line refuses the words
-abbrev pub is_usage : List Text → Bool
-is_usage [] = true
-is_usage (name ∷ rest) = option_map_or (refuses (name ∷ rest)) (cli name) true
 
 -- the number that a text of digits writes, where a plus may stand first
 abbrev pub number_of : Text → ℕ
@@ -28,14 +29,49 @@ number_of text = digits_value 10 (without_leading_plus text)
 abbrev pub compile_with : Text → Command
 compile_with cells = Compile Magic Zero (number_of cells)
 
--- `compile`, by what its command line reads of the words
-abbrev pub compile_said : List Text → App → Option Command
-compile_said words line = option_map compile_with (one_of (codes "cells") (matches_of line words))
+-- `compile`, by the matches of its command line
+abbrev pub compile_said : List Row → Option Command
+compile_said rows = option_map compile_with (one_of (codes "cells") rows)
+
+-- ones where this text stands after `--fill`, and else zeros
+abbrev pub fill_of : Option Text → FillWord
+fill_of (Some text) = if bytes_eq text (codes "ones") then Ones else Zeros
+fill_of None = Zeros
+
+-- `run`, by the matches of its command line
+abbrev pub run_said : List Row → Option Command
+run_said rows = Some (Run (fill_of (first_of (codes "fill") rows)))
+
+-- a command that is built: its command line, and what the matches of that say
+pub record BuiltCommand : Type 0 where
+  pub line : App
+  pub said : List Row → Option Command
+
+-- the command of this name, where it is built
+abbrev pub cli : Text → Option BuiltCommand
+cli name =
+    if bytes_eq name (codes "compile") then Some (record {
+      line = compile_line;
+      said = compile_said;
+    })
+    else if bytes_eq name (codes "run") then Some (record {
+      line = fill_line (codes "run");
+      said = run_said;
+    })
+    else None
+
+-- there is no word, the command is not built, the file that it takes is missing, or its command
+-- line refuses the others
+abbrev pub is_usage : List Text → Bool
+is_usage [] = true
+is_usage (name ∷ rest) = lacks_program (name ∷ rest)
+    || option_map_or (λ command. refuses (others (name ∷ rest)) command.line) (cli name) true
 
 -- the command that the words say, where they are not refused
 abbrev pub command_said : List Text → Option Command
 command_said [] = None
-command_said (name ∷ rest) = option_and_then (compile_said (name ∷ rest)) (cli name)
+command_said (name ∷ rest) = option_and_then
+    (λ command. command.said (matches_of command.line (others (name ∷ rest)))) (cli name)
 
 -- the two command lines refuse the same words, and read the others alike
 pub record ReadsAlike (a b : App) : Type 0 where
@@ -51,3 +87,4 @@ names_command (name ∷ rest) = is_some (cli name)
 -- the number of cells is at most that of a whole row
 abbrev pub IsWithin : Command → Type 0
 IsWithin (Compile target level cells) = cells ≤ 1048576
+IsWithin (Run fill) = Unit {0}

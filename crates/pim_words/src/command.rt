@@ -14,7 +14,17 @@ pub enum LevelWord {
     Zero,
 }
 
-/// A command with its options.
+/// What each cell of a row holds before a program runs in it.
+#[derive(Clone, Copy, Debug, PartialEq, Eq)]
+pub enum FillWord {
+    /// Zero in each cell.
+    Zeros,
+    /// One in each cell.
+    Ones,
+}
+
+/// A command with its options. The file of a program is none of these:
+/// [`program_word`](crate::program_word) gives its name.
 #[derive(Clone, Copy, Debug, PartialEq, Eq)]
 pub enum Command {
     /// `compile`: a netlist becomes a program.
@@ -25,5 +35,10 @@ pub enum Command {
         level: LevelWord,
         /// The value of `--cells`: how many cells the program may use, at most 1,048,576.
         cells: u32,
+    },
+    /// `run`: a program is executed on vectors.
+    Run {
+        /// The value of `--fill`.
+        fill: FillWord,
     },
 }

@@ -1,17 +1,15 @@
 //! The words of `compile`: `--target magic --cells N [--level 0]`.
 ghost use Rattle.std.specs.Prelude.{◌≡◌, IfOk, OnOk, false, map, option_map, true, codes};
 ghost use Rattle.std.specs.String.{string_bytes};
-ghost use Rattle.clap.specs.Words.{app_of, found_of, kind_of, one_text, IsParsedFrom};
+ghost use Rattle.clap.specs.Words.{app_of, found_of, matches_of, one_text, IsParsedFrom};
 ghost use Rattle.clap.specs.declared.parser.matches.ArgMatches.{ArgMatches};
 ghost use Rattle.pim_words.specs.Lines.{compile_line};
 ghost use Rattle.pim_words.specs.Matches.{HasCells};
 ghost use Rattle.pim_words.specs.Reading.{IsWithin, ReadsAlike, compile_said, compile_with, refuses};
 
-use crate::options::option_of;
+use crate::options::{choice_of, option_of};
 use crate::{Command, LevelWord, TargetWord, WordsFault};
-use clap::builder::ValueParser;
-use clap::error::ErrorKind;
-use clap::{ArgMatches, Error};
+use clap::ArgMatches;
 use std::alloc::{AllocError, Global};
 
 static TARGETS: [&str; 1] = ["magic"];
@@ -23,10 +21,10 @@ fn compile_line<'a>(alloc: Global) -> Result<clap::Command<'a>, AllocError>
     ensures alike { IfOk result (λ line. ReadsAlike (app_of line) compile_line) }
     ensures cells { IfOk result (λ line. (m : ArgMatches) → IsParsedFrom line m → HasCells m) }
 {
-    let target = option_of(alloc, "target", ValueParser::Names(TARGETS.as_slice())).required(true);
+    let target = choice_of(alloc, "target", TARGETS.as_slice()).required(true);
     let number = clap::value_parser!(u32).range(0..=1_048_576);
     let cells = option_of(alloc, "cells", number).required(true);
-    let level = option_of(alloc, "level", ValueParser::Names(LEVELS.as_slice())).default_value("0");
+    let level = choice_of(alloc, "level", LEVELS.as_slice()).default_value("0");
     clap::Command::new(alloc, "compile")
         .arg(target)?
         .arg(cells)?
@@ -38,16 +36,13 @@ pub fn read_compile(alloc: Global, words: &[String]) -> Result<Command, WordsFau
     ensures usage { result ≡ Err WordsFault.Usage
         → refuses (map string_bytes words.now) compile_line ≡ true }
     ensures accepted { OnOk result (refuses (map string_bytes words.now) compile_line ≡ false) }
-    ensures value { IfOk result (λ c. compile_said (map string_bytes words.now) compile_line ≡ Some c) }
+    ensures value { IfOk result (λ c.
+        compile_said (matches_of compile_line (map string_bytes words.now)) ≡ Some c) }
     ensures within { IfOk result IsWithin }
 {
-    let Ok(line) = compile_line(alloc) else {
-        return Err(WordsFault::NoMemory);
-    };
-    match line.try_get_matches_from(words) {
-        Ok(matches) => Ok(compile_of(&matches)),
-        Err(error) => Err(fault_of(&error)),
-    }
+    let line = compile_line(alloc)?;
+    let matches = line.try_get_matches_from(words)?;
+    Ok(compile_of(&matches))
 }
 
 /// The command that the matches of `compile` say.
@@ -64,16 +59,5 @@ fn compile_of(matches: &ArgMatches) -> Command
             cells,
         },
         None => unreachable!(),
-    }
-}
-
-/// Whether `clap` gave up for want of memory or refused the words.
-fn fault_of(error: &Error) -> WordsFault
-    ensures memory { kind_of error.now ≡ ErrorKind.OutOfMemory → result ≡ WordsFault.NoMemory }
-    ensures usage { result ≡ WordsFault.NoMemory → kind_of error.now ≡ ErrorKind.OutOfMemory }
-{
-    match error.kind() {
-        ErrorKind::OutOfMemory => WordsFault::NoMemory,
-        _ => WordsFault::Usage,
     }
 }

@@ -1,4 +1,5 @@
 //! The options of a command line.
+ghost use Rattle.clap.specs.declared.builder.value_parser.ValueParser.TheVariants as vp;
 ghost use Rattle.pim_words.specs.Lines.{option_of};
 ghost use Rattle.pim_words.specs.Options.{HasRule};
 
@@ -14,4 +15,11 @@ pub fn option_of<'a>(alloc: Global, name: &'a str, parser: ValueParser<'a>) -> A
         .long(name)
         .action(ArgAction::Set)
         .value_parser(parser)
+}
+
+/// The option `--name`, with one value that is one of the choices.
+pub fn choice_of<'a>(alloc: Global, name: &'a str, choices: &'a [&'a str]) -> Arg<'a>
+    ensures { HasRule (option_of name.entry.now (vp.Names choices.entry)) result }
+{
+    option_of(alloc, name, ValueParser::Names(choices))
 }

@@ -1,7 +1,7 @@
 //! Which word names the file of a program.
 ghost use Rattle.std.specs.Prelude.{◌≡◌, map, option_map};
 ghost use Rattle.std.specs.String.{string_bytes};
-ghost use Rattle.pim_words.specs.Program.{program_word_of, takes_program};
+ghost use Rattle.pim_words.specs.Program.{lacks_program, program_word_of, takes_program};
 
 /// The name of the file that the command reads a program from: the second word, exactly where the
 /// first is the name of a command that has such a file.
@@ -11,6 +11,16 @@ pub fn program_word(words: &[String]) -> Option<&str>
     match words {
         [name, file, ..] if takes_program(name.as_str()) => Some(file.as_str()),
         _ => None,
+    }
+}
+
+/// Whether the words stop before the file that their command takes.
+pub fn lacks_program(words: &[String]) -> bool
+    ensures { result ≡ lacks_program (map string_bytes words.now) }
+{
+    match words {
+        [name] => takes_program(name.as_str()),
+        _ => false,
     }
 }
 

@@ -6,14 +6,19 @@ ghost use Rattle.pim_words.specs.Plain.{IsPlain};
 ghost use Rattle.pim_words.specs.Reading.{IsWithin, command_said, is_usage, names_command};
 
 use crate::compiling::read_compile;
+use crate::program::lacks_program;
+use crate::running::read_run;
 use crate::{Command, WordsFault};
 use std::alloc::Global;
 
-/// Reads the words after the program's name: the name of a command, and then its options.
+/// Reads the words after the program's name: the name of a command, then the file of a program
+/// where the command takes one, and then its options.
 ///
 /// Words are refused exactly where there is none, where the first names no command that is built,
-/// or where `clap` refuses them for another cause than memory, a wish for help among these. That
-/// memory was wanting is claimed nowhere: `NoMemory` may come wherever a command is named.
+/// where the file is missing, or where `clap` refuses the others for another cause than memory, a
+/// wish for help among these. The file is the second word, whatever it begins with, and `clap`
+/// does not read it. That memory was wanting is claimed nowhere: `NoMemory` may come wherever a
+/// command is named.
 pub fn read(alloc: Global, words: &[String]) -> Result<Command, WordsFault>
     ensures usage { result ≡ Err WordsFault.Usage → is_usage (map string_bytes words.now) ≡ true }
     ensures accepted { OnOk result (is_usage (map string_bytes words.now) ≡ false) }
@@ -24,11 +29,15 @@ pub fn read(alloc: Global, words: &[String]) -> Result<Command, WordsFault>
     ensures value { IfOk result (λ c. command_said (map string_bytes words.now) ≡ Some c) }
     ensures within { IfOk result IsWithin }
 {
-    let Some(name) = words.first() else {
+    let Some((name, rest)) = words.split_first() else {
         return Err(WordsFault::Usage);
     };
-    if name.as_str() == "compile" {
+    if lacks_program(words) {
+        Err(WordsFault::Usage)
+    } else if name.as_str() == "compile" {
         read_compile(alloc, words)
+    } else if name.as_str() == "run" {
+        read_run(alloc, rest)
     } else {
         Err(WordsFault::Usage)
     }

@@ -1,4 +1,4 @@
-use crate::{Command, LevelWord, TargetWord, WordsFault, program_word, read};
+use crate::{Command, FillWord, LevelWord, TargetWord, WordsFault, program_word, read};
 use std::alloc::Global;
 use std::test::Fail;
 
@@ -28,6 +28,28 @@ fn reads_compile(rt: HostRuntime) -> Result<(), Fail> {
 }
 
 #[test]
+fn reads_run(rt: HostRuntime) -> Result<(), Fail> {
+    let alloc = rt.alloc();
+    let words = words_of(alloc, "run --help")?;
+    let command = read(alloc, &words)?;
+    assert!(rt;
+        command
+            == Command::Run {
+                fill: FillWord::Zeros
+            }
+    );
+    let words = words_of(alloc, "run --fill --fill ones")?;
+    let command = read(alloc, &words)?;
+    assert!(rt;
+        command
+            == Command::Run {
+                fill: FillWord::Ones
+            }
+    );
+    Ok(())
+}
+
+#[test]
 fn refuses_other_words(rt: HostRuntime) -> Result<(), Fail> {
     let alloc = rt.alloc();
     for line in [
@@ -36,6 +58,21 @@ fn refuses_other_words(rt: HostRuntime) -> Result<(), Fail> {
         "compile",
         "compile --help",
         "compile --target magic --cells 1048577",
+    ] {
+        let words = words_of(alloc, line)?;
+        assert!(rt; matches!(read(alloc, &words), Err(WordsFault::Usage)));
+    }
+    Ok(())
+}
+
+#[test]
+fn refuses_other_words_of_run(rt: HostRuntime) -> Result<(), Fail> {
+    let alloc = rt.alloc();
+    for line in [
+        "run",
+        "run a --help",
+        "run a --fill two",
+        "run --fill ones a",
     ] {
         let words = words_of(alloc, line)?;
         assert!(rt; matches!(read(alloc, &words), Err(WordsFault::Usage)));

@@ -1,5 +1,8 @@
-use Rattle.std.proofs.Common.{◌≡◌, ℕ, List, [], ◌++◌, ◌∙◌, ap, codes, length}
-use Rattle.pim_file.specs.Text.{counted_text, head_text, instrs_text, ports_text}
+use Rattle.std.proofs.Common.{◌≡◌, ℕ, ◌<◌, take, Err, List, [], ◌++◌, ◌∙◌, ap, sym, subst, Ok, codes, length}
+use Rattle.pim_file.specs.Text.{counted_text, head_text, instrs_text, ports_text, text as text_of}
+use Rattle.pim_file.specs.declared.fault.FileFault.TheVariants as faults
+use Rattle.pim_file.specs.ProgramFile.{parse1_of}
+use Rattle.pim_file.proofs.Laws.{parse1_of-text, parse1_of-cut}
 use Rattle.pim_file.proofs.printing.print.Goals as goal
 
 -- six pieces, appended one after another to nothing
@@ -21,4 +24,10 @@ returns c =
     rw (← c.instrs.ensures.value) c.in_ok-counted.ensures in
     let body : c.push_instrs.new.text ≡ c.counted.new.self ++ instrs_text p.instrs =
     rw (← c.instrs-2.ensures.value) c.in_ok-push_instrs.ensures in
-    six_pieces _ _ _ _ _ _ _ _ _ _ _ _ _ _ c.new-text.ensures head ins outs cycles body c.in_ok-bytes.ensures c.into_bytes.ensures
+    let whole : c.into_bytes.result.items ≡ text_of p =
+    six_pieces _ _ _ _ _ _ _ _ _ _ _ _ _ _ c.new-text.ensures head ins outs cycles body c.in_ok-bytes.ensures c.into_bytes.ensures in
+    record {
+      text = whole;
+      again = subst (λ (t : List ℕ). parse1_of t ≡ Ok p) (sym whole) (parse1_of-text p c.target.ensures.valid);
+      cut = subst (λ (t : List ℕ). (k : ℕ) → k < length t → parse1_of (take k t) ≡ Err faults.Truncated) (sym whole) (λ k lt. parse1_of-cut p k c.target.ensures.valid lt);
+    }

@@ -1,12 +1,14 @@
-use Rattle.std.proofs.Common.{◌≡◌, ℕ, List, [], fold, slice_index, ap, ◌∙◌, Vec, Global}
+use Rattle.std.proofs.Common.{◌≡◌, ℕ, List, [], fold, slice_index, ap, subst, sym, ◌∙◌, Vec, Global}
 use Rattle.std.proofs.lemmas.Result.{IfOk-weaker}
 use Rattle.pim_graph.specs.Graphs.{kids_of}
 use Rattle.pim_graph.specs.Orders.{visited, order}
+use Rattle.pim_graph.specs.Peaks.{IsPlaced}
 use Rattle.pim_graph.specs.Usages.{falling, usages}
+use Rattle.pim_graph.proofs.Orderings.{order-IsPlaced}
 use Rattle.pim_graph.proofs.ordering.order.Goals as goal
 
-pub returns : goal.returns
-returns c =
+pub returns-clause-order : goal.returns-clause-order
+returns-clause-order c =
     let g = c.args.graph.now in
     let walked : List ℕ → List ℕ → List ℕ = λ us gates. fold (visited (λ x. falling (slice_index us) (kids_of g x))) [] gates in
     let first : c.deref.result.now ≡ usages g = c.deref.ensures.value ∙ c.in_ok-usage.ensures.values in
@@ -15,3 +17,9 @@ returns c =
     let roots : c.deref-3.result.now ≡ falling (slice_index (usages g)) g.roots = c.deref-3.ensures.value ∙ (c.in_ok-sort_falling.ensures.list ∙ (ap (λ (us : List ℕ). falling (slice_index us) c.in_ok-roots.roots.items) first ∙ ap (falling (slice_index (usages g))) named)) in
     let e : walked c.deref-2.result.now c.deref-3.result.now ≡ order g = ap (λ (us : List ℕ). walked us c.deref-3.result.now) second ∙ ap (walked (usages g)) roots in
     IfOk-weaker c.walk.result _ _ (λ (out : Vec ℕ Global) p. p ∙ e) c.walk.ensures
+
+pub returns-clause-placed : goal.returns-clause-placed
+returns-clause-placed c =
+    let g = c.args.graph.now in
+    let P : List ℕ → Type 0 = IsPlaced g in
+    IfOk-weaker c.walk.result _ _ (λ (out : Vec ℕ Global) e. subst P (sym e) (order-IsPlaced g c.roots.ensures.sound)) (returns-clause-order c)

@@ -2,7 +2,8 @@ use Rattle.std.proofs.Common.{◌≡◌, ℕ, min, length, sym, ◌∙◌, rules
 use Rattle.std.proofs.lemmas.List.{drop-map, length-map}
 use Rattle.std.proofs.lemmas.Slice.Zip.{zip_end}
 use Rattle.pim_isa.proofs.RowLemmas.{with_inputs_end}
-use Rattle.pim_isa.specs.Results.{with_inputs, bits_of}
+use Rattle.pim_io.specs.Bits.{bits_of}
+use Rattle.pim_isa.specs.Results.{with_inputs}
 use Rattle.pim_isa.proofs.row.put_line.Goals as goal
 
 -- at the end nothing is left to put

@@ -1,5 +1,6 @@
 use Rattle.std.proofs.Common.{◌≡◌, length, drop}
-use Rattle.pim_isa.specs.Results.{with_inputs, bits_of}
+use Rattle.pim_io.specs.Bits.{bits_of}
+use Rattle.pim_isa.specs.Results.{with_inputs}
 use Rattle.pim_isa.proofs.row.put_line.Given as goal
 
 -- the rest of the inputs, on the row so far, gives what all of them give

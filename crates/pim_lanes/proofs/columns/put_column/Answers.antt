@@ -1,5 +1,5 @@
 use Rattle.std.proofs.Common.{ℕ, List, length, refl, ap, ◌∙◌}
-use Rattle.pim_lanes.specs.Lanes.{lane}
+use Rattle.pim_io.specs.Lanes.{lane}
 use Rattle.pim_lanes.proofs.ColumnLemmas.{stored_here}
 use Rattle.pim_lanes.proofs.columns.put_column.Goals as goal
 

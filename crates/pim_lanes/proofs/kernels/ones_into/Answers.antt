@@ -1,5 +1,5 @@
 use Rattle.std.proofs.Common.{◌≡◌, ℕ, ◌-◌, ◌^◌, List, length, replicate, ap, ◌∙◌, arith}
-use Rattle.pim_lanes.specs.Lanes.{lane}
+use Rattle.pim_io.specs.Lanes.{lane}
 use Rattle.pim_lanes.proofs.RuleLemmas.{lane-ones}
 use Rattle.pim_lanes.proofs.kernels.ones_into.Goals as goal
 

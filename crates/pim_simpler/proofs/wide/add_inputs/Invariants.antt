@@ -1,5 +1,5 @@
 use Rattle.std.proofs.Common.{◌≡◌, ◌++◌, drop}
-use Rattle.pim_simpler.specs.Wide.{input_ports}
+use Rattle.pim_isa.specs.PortLists.{input_ports}
 use Rattle.pim_simpler.proofs.wide.add_inputs.Given as goal
 
 -- the draft so far, with the ports of the labels that are left, is the draft with all of them

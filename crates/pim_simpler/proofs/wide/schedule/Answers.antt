@@ -1,11 +1,12 @@
-use Rattle.std.proofs.Common.{◌≡◌, ◌∙◌, ap, sym, subst, Some, None}
-use Rattle.pim_isa.specs.Primed.{IsPrimed}
+use Rattle.std.proofs.Common.{◌≡◌, ◌∙◌, ap, sym, subst, false, Some, None}
+use Rattle.pim_isa.specs.Primed.{IsPrimedFrom}
 use Rattle.pim_isa.specs.Programs.{ProgramView}
 use Rattle.pim_isa.specs.Validity.{fault_of}
 use Rattle.pim_simpler.specs.Means.{Means}
-use Rattle.pim_simpler.specs.Wide.{wide, labels_of}
+use Rattle.pim_isa.specs.PortLists.{labels_of}
+use Rattle.pim_simpler.specs.Wide.{wide}
 use Rattle.pim_simpler.proofs.Sound.{wide-sound, few-ports, few-instrs}
-use Rattle.pim_simpler.proofs.Ready.{wide-primed}
+use Rattle.pim_simpler.proofs.Ready.{instrs-ready}
 use Rattle.pim_simpler.proofs.Whole.{wide-means, labels-kept}
 use Rattle.pim_simpler.proofs.wide.schedule.Goals as goal
 
@@ -32,8 +33,8 @@ returns-in-Ok-new-clause-means c =
 pub returns-in-Ok-new-clause-primed : goal.returns-in-Ok-new-clause-primed
 returns-in-Ok-new-clause-primed c =
     let is : c.in-Ok-new.program ≡ wide c.args.net.now c.args.ports.now = c.in-Ok-new.ensures.program ∙ c.in-Ok.ensures in
-    let F : ProgramView → Type 0 = λ p. IsPrimed p.instrs in
-    subst F (sym is) (wide-primed c.args.net.now.inputs c.args.net.now.gates)
+    let F : ProgramView → Type 0 = λ p. IsPrimedFrom (λ _. false) p.instrs in
+    c.primed_from_front.ensures (subst F (sym is) (instrs-ready c.args.net.now.inputs c.args.net.now.gates))
 
 pub returns-in-Ok-new-clause-labels : goal.returns-in-Ok-new-clause-labels
 returns-in-Ok-new-clause-labels c =

@@ -1,9 +1,11 @@
 use Rattle.std.proofs.Common.{ℕ, length, ap, ◌∙◌, arith, below_more, get_or-set_same, get_or-set_other}
 use Rattle.std.proofs.lemmas.List.FromFn.{fill_by_all}
-use Rattle.pim_vectors.specs.Tiles.{lane_at, digit_of}
+use Rattle.pim_io.specs.Bits.{digit_of}
+use Rattle.pim_vectors.specs.Tiles.{lane_at}
 use Rattle.pim_vectors.proofs.rows.unpack_row.Goals as goal
 
 pub loop-column-preserved : goal.loop-column-preserved
+unfolding lane_at
 loop-column-preserved c =
     let k = c.loop-column.column in
     let line = c.loop-column.line in

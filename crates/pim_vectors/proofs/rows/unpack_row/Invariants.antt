@@ -1,5 +1,6 @@
 use Rattle.std.proofs.Common.{◌≡◌, ℕ, ◌<◌, get_or}
-use Rattle.pim_vectors.specs.Tiles.{lane_at, digit_of}
+use Rattle.pim_io.specs.Bits.{digit_of}
+use Rattle.pim_vectors.specs.Tiles.{lane_at}
 use Rattle.pim_vectors.proofs.rows.unpack_row.Given as goal
 
 -- the characters of the columns so far are written

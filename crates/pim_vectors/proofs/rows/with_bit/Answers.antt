@@ -1,5 +1,5 @@
 use Rattle.std.proofs.Common.{Bool, cond, eqb, sym, ap, ◌∙◌}
-use Rattle.pim_vectors.specs.Tiles.{is_set}
+use Rattle.pim_io.specs.Lanes.{is_set}
 use Rattle.pim_vectors.proofs.TileLemmas.{is_set-set, is_set-clear}
 use Rattle.pim_vectors.proofs.rows.with_bit.Goals as goal
 

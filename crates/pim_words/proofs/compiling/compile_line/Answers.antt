@@ -5,20 +5,21 @@ use Rattle.clap.specs.declared.builder.value_parser.ValueParser.TheVariants as v
 use Rattle.pim_words.specs.Lines.{compile_line, option_of}
 use Rattle.pim_words.specs.Options.{HasRule}
 use Rattle.pim_words.specs.Reading.{ReadsAlike}
-use Rattle.pim_words.proofs.CompileLine.{cells_read, cells_rule, compile_alike, level_rule, line_is, target_rule, with_default, with_required}
+use Rattle.pim_words.proofs.CompileLine.{cells_read, cells_rule, compile_alike, level_rule, line_is, target_rule}
+use Rattle.pim_words.proofs.OptionRules.{with_default, with_required}
 use Rattle.pim_words.proofs.compiling.compile_line.Goals as goal
 
 target_has : (c : goal.After-arg-3) → HasRule (target_rule (vp.Names c.as_slice.result)) c.required-target.result
-target_has c = with_required _ c.option_of.result c.required-target.result c.option_of.ensures c.required-target.ensures
+target_has c = with_required _ c.choice_of.result c.required-target.result c.choice_of.ensures c.required-target.ensures
 
 cells_has : (c : goal.After-arg-3) → HasRule cells_rule c.required-cells.result
 cells_has c =
     let bounds : c.range-number.result ≡ vp.Signed (pos 0) (pos 1048576) = search rules in
-    with_required _ c.option_of-2.result c.required-cells.result
-    (subst (λ p. HasRule (option_of (codes "cells") p) c.option_of-2.result) bounds c.option_of-2.ensures) c.required-cells.ensures
+    with_required _ c.option_of.result c.required-cells.result
+    (subst (λ p. HasRule (option_of (codes "cells") p) c.option_of.result) bounds c.option_of.ensures) c.required-cells.ensures
 
 level_has : (c : goal.After-arg-3) → HasRule (level_rule (vp.Names c.as_slice-2.result)) c.default_value-level.result
-level_has c = with_default _ c.option_of-3.result c.default_value-level.result _ c.option_of-3.ensures c.default_value-level.ensures
+level_has c = with_default _ c.choice_of-2.result c.default_value-level.result _ c.choice_of-2.ensures c.default_value-level.ensures
 
 pub returns-clause-alike : goal.returns-clause-alike
 returns-clause-alike c = IfOk-weaker c.arg-3.result _ _ (λ line added.

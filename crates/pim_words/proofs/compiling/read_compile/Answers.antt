@@ -1,16 +1,22 @@
-use Rattle.std.proofs.Common.{◌≡◌, ◌∙◌, ap, codes, map, option_map, sym, true}
+use Rattle.std.proofs.Common.{◌∙◌, ap, codes, map, subst, option_map}
+use Rattle.std.specs.Prelude.{IsErrAnd, Result}
 use Rattle.std.specs.String.{string_bytes}
-use Rattle.clap.specs.Words.{app_of, found_of, is_simple, one_of}
-use Rattle.clap.proofs.WalkLemmas.{both, one_text-rows}
+use Rattle.clap.specs.Words.{app_of}
+use Rattle.pim_words.specs.Lines.{compile_line}
 use Rattle.pim_words.specs.Reading.{compile_with}
+use Rattle.pim_words.specs.Refusal.{IsFaultOf}
+use Rattle.pim_words.specs.declared.command.Command.{Command}
+use Rattle.pim_words.specs.declared.fault.WordsFault.{WordsFault}
+use Rattle.pim_words.proofs.Answered.{one_alike, refused}
 use Rattle.pim_words.proofs.compiling.read_compile.Goals as goal
 
-pub returns-in-Ok-try_get_matches_from-clause-value : goal.returns-in-Ok-try_get_matches_from-clause-value
-returns-in-Ok-try_get_matches_from-clause-value c =
-    let alike = c.in-Ok.ensures.alike in
-    let matches = c.in-Ok-try_get_matches_from.matches in
-    let words = map string_bytes c.args.words.now in
-    let simple : is_simple (app_of c.in-Ok.line) ≡ true = (both _ _ alike.simple).0 in
-    let rows = (c.in-Ok-try_get_matches_from.ensures.matches simple).0 in
-    ap (option_map compile_with) (ap (one_of (codes "cells")) (sym (rows ∙ alike.matches words)) ∙ sym (one_text-rows (found_of matches) (codes "cells")))
-    ∙ c.compile_of.ensures.said
+pub returns-in_err-matches-clause-usage : goal.returns-in_err-matches-clause-usage
+returns-in_err-matches-clause-usage c = λ usage.
+    let error = c.in_err-matches.field-0.0 in
+    refused (app_of c.in_ok-line.line) compile_line (map string_bytes c.args.words.now) error c.in_ok-line.ensures.alike c.in_err-matches.ensures.kinds
+    (subst (λ (r : Result Command WordsFault). IsErrAnd r (IsFaultOf error)) usage c.from_residual-in_err-matches.ensures.1)
+
+pub returns-clause-value : goal.returns-clause-value
+returns-clause-value c =
+    ap (option_map compile_with) (one_alike (app_of c.in_ok-line.line) compile_line (map string_bytes c.args.words.now) c.in_ok-matches.matches (codes "cells")
+    c.in_ok-line.ensures.alike c.in_ok-matches.ensures.matches) ∙ c.compile_of.ensures.said

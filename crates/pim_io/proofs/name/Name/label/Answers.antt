@@ -9,6 +9,12 @@ invariant_of-result c =
     let P : List ℕ → Type 0 = λ bytes. IsLabel bytes in
     subst P (sym made) (IsLabel-label c.args.bytes.now c.requires.some c.requires.short)
 
+pub returns-clause-labels : goal.returns-clause-labels
+returns-clause-labels c =
+    let made : c.in_ok-bytes.bytes.items ≡ label c.args.bytes.now = c.in_ok-bytes.ensures in
+    let P : List ℕ → Type 0 = λ bytes. IsLabel bytes in
+    subst P (sym made) (IsLabel-label c.args.bytes.now c.requires.some c.requires.short)
+
 pub returns-clause-kept : goal.returns-clause-kept
 returns-clause-kept c = λ h.
     let made : c.in_ok-bytes.bytes.items ≡ label c.args.bytes.now = c.in_ok-bytes.ensures in

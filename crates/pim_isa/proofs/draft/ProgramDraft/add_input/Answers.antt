@@ -1,5 +1,4 @@
 use Rattle.std.proofs.lemmas.List.Elements.{All-push}
-use Rattle.pim_io.proofs.Labels.{IsLabel-label}
 use Rattle.pim_isa.specs.Sound.{HasLabel}
 use Rattle.pim_isa.proofs.NoteLemmas.{Notes-push}
 use Rattle.pim_isa.proofs.draft.ProgramDraft.add_input.Goals as goal
@@ -11,7 +10,7 @@ invariant_of-self-2 c = record {
   input_labels =
       rw c.in_ok-push.ensures.items
       (All-push HasLabel c.self.inside.inputs.items _ c.self.invariant.input_labels
-      (rw c.in_ok-label.ensures.value (IsLabel-label c.args.label.now c.requires.some c.requires.short)));
+      c.in_ok-label.ensures.labels);
   output_labels = c.self.invariant.output_labels;
   notes =
       rw (c.in_ok-push.ensures.items, c.write.ensures, c.first_bad-self-inside.ensures, c.deref.ensures.value, c.len-place.ensures, c.self.inside.inputs.ok.0)

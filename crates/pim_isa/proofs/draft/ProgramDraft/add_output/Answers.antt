@@ -1,5 +1,4 @@
 use Rattle.std.proofs.lemmas.List.Elements.{All-push}
-use Rattle.pim_io.proofs.Labels.{IsLabel-label}
 use Rattle.pim_isa.specs.Sound.{HasLabel}
 use Rattle.pim_isa.proofs.draft.ProgramDraft.add_output.Goals as goal
 
@@ -11,6 +10,6 @@ invariant_of-self-2 c = record {
   output_labels =
       rw c.in_ok-push.ensures.items
       (All-push HasLabel c.self.inside.outputs.items _ c.self.invariant.output_labels
-      (rw c.in_ok-label.ensures.value (IsLabel-label c.args.label.now c.requires.some c.requires.short)));
+      c.in_ok-label.ensures.labels);
   notes = c.self.invariant.notes;
 }

@@ -4,7 +4,8 @@ use Rattle.std.proofs.lemmas.Grind.{common_steps}
 use Rattle.std.proofs.lemmas.List.{length-map}
 use Rattle.pim_isa.proofs.RowLemmas.{length-with_inputs}
 use Rattle.pim_isa.proofs.LoadLemmas.{load_is}
-use Rattle.pim_isa.specs.Results.{bits_of, load}
+use Rattle.pim_io.specs.Bits.{bits_of}
+use Rattle.pim_isa.specs.Results.{load}
 use Rattle.pim_isa.proofs.machine.Machine.reload.Goals as goal
 
 -- a bit for each cell

@@ -1,7 +1,6 @@
 use Rattle.std.proofs.Common.{◌≡◌, ℕ, ◌-◌, ◌<◌, ◌≤◌, inl, inr, List, refl, sym, ap, subst, ◌∙◌}
 use Rattle.std.proofs.lemmas.Bool.{cases_lt}
-use Rattle.pim_lanes.specs.Lanes.{lane}
-use Rattle.pim_lanes.specs.Columns.{column_in}
+use Rattle.pim_io.specs.Lanes.{lane, column_in}
 use Rattle.pim_lanes.specs.Banks.{BankView}
 use Rattle.pim_lanes.proofs.ColumnLemmas.{column_in_slice}
 use Rattle.pim_lanes.proofs.BankLemmas.{cell_column, constant_column, column_bit}

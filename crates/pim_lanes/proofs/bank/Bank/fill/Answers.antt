@@ -1,7 +1,7 @@
 use Rattle.std.proofs.Common.{ℕ, length, replicate, ap, ◌∙◌}
 use Rattle.std.proofs.lemmas.List.{with_items_is}
 use Rattle.pim_isa.specs.Results.{fill_bit}
-use Rattle.pim_lanes.specs.Lanes.{lane}
+use Rattle.pim_io.specs.Lanes.{lane}
 use Rattle.pim_lanes.proofs.BankLemmas.{fill_rows, fill_lanes}
 use Rattle.pim_lanes.proofs.bank.Bank.fill.Goals as goal
 

@@ -1,6 +1,6 @@
 use Rattle.std.proofs.Common.{ℕ, List, refl, ◌∙◌}
 use Rattle.std.proofs.lemmas.List.{with_items_is}
-use Rattle.pim_lanes.specs.Lanes.{lane}
+use Rattle.pim_io.specs.Lanes.{lane}
 use Rattle.pim_lanes.proofs.BankLemmas.{row_lanes}
 use Rattle.pim_lanes.proofs.bank.Bank.put_column.Goals as goal
 

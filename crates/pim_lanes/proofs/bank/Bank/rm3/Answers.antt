@@ -1,6 +1,6 @@
 use Rattle.std.proofs.Common.{◌≡◌, ℕ, Bool, not, set, ap, ◌∙◌}
 use Rattle.pim_isa.specs.Steps.{bit, value, majority}
-use Rattle.pim_lanes.specs.Lanes.{lane}
+use Rattle.pim_io.specs.Lanes.{lane}
 use Rattle.pim_lanes.specs.Banks.{BankView, column_at, row_of}
 use Rattle.pim_lanes.proofs.BankLemmas.{rm3_fits, operand_value}
 use Rattle.pim_lanes.proofs.bank.Bank.rm3.Goals as goal

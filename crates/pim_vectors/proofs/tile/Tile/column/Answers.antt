@@ -1,5 +1,6 @@
 use Rattle.std.proofs.Common.{ℕ, List, refl, ap, ◌∙◌}
-use Rattle.pim_vectors.specs.Tiles.{TileView, lane, column_in, column_of}
+use Rattle.pim_io.specs.Lanes.{lane, column_in}
+use Rattle.pim_vectors.specs.Tiles.{TileView, column_of}
 use Rattle.pim_vectors.proofs.TileLemmas.{column_in_slice, column_lanes}
 use Rattle.pim_vectors.proofs.tile.Tile.column.Goals as goal
 

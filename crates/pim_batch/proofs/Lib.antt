@@ -1,0 +1,4 @@
+pub mod Took
+pub mod RowLemmas
+pub mod BatchLemmas
+mod Examples

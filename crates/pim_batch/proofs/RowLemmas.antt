@@ -1,0 +1,128 @@
+-- Rows of a bank and of a tile, and the lines of rows.
+use Rattle.std.proofs.Common.{◌≡◌, ℕ, zero, suc, ◌+◌, ◌<◌, ◌≤◌, Bool, false, List, [], ◌∷◌, ◌++◌, length, drop, set, get_or, map, refl, sym, ap, subst, ◌∙◌, arith, below_more, get_or-set_same, get_or-set_other}
+use Rattle.std.specs.Prelude.{All}
+use Rattle.std.specs.List.{flat_map, range_with_len}
+use Rattle.std.proofs.lemmas.Grind.{flat_map-append}
+use Rattle.std.proofs.lemmas.List.{length-map, ext_get_or, get_or-map}
+use Rattle.std.proofs.lemmas.List.FromFn.{length-map-range_with_len}
+use Rattle.pim_io.specs.Lanes.{lane}
+use Rattle.pim_isa.specs.declared.port.Port.{Port}
+use Rattle.pim_isa.specs.Steps.{bit}
+use Rattle.pim_isa.specs.Results.{with_inputs}
+use Rattle.pim_isa.specs.Sound.{cells_of}
+use Rattle.pim_lanes.specs.Banks.{BankView, row_of, SameFrame}
+use Rattle.pim_vectors.specs.Tiles.{TileView, column_of as tile_column, row_of as tile_row}
+use Rattle.pim_batch.specs.Batches.{row_line, row_lines}
+
+-- ---- rows
+pub length-tile_row : (t : TileView) (r : ℕ) → length (tile_row t r) ≡ t.columns
+unfolding tile_row
+length-tile_row t r = length-map-range_with_len (λ (c : ℕ). lane (tile_column t c) r) 0 t.columns
+
+-- what stays in two steps
+pub frame_then : (a b c : BankView) → SameFrame a b → SameFrame b c → SameFrame a c
+frame_then a b c first second = record {
+  cells = second.cells ∙ first.cells;
+  words = second.words ∙ first.words;
+}
+
+-- ---- ports
+get_or-cells_of : (ports : List Port) (k : ℕ) (p : Port) → k < length ports → p ≡ get_or ports k p → get_or (cells_of ports) k 0 ≡ p.cell
+get_or-cells_of ports k p small is =
+    get_or-map (λ (q : Port). q.cell) ports k p 0 small ∙ ap (λ (q : Port). q.cell) (sym is)
+
+-- the cell of a port lies where the cells of all ports do
+pub port_within : (ports all : List Port) (cells k : ℕ) (p : Port) → ports ≡ all → All (λ c. c < cells) (cells_of all) →
+    k < length ports → p ≡ get_or ports k p → p.cell < cells
+port_within ports all cells k p same within small is =
+    let P : List Port → Type 0 = λ l. All (λ c. c < cells) (cells_of l) in
+    let here : get_or (cells_of ports) k 0 < cells =
+    subst P (sym same) within k 0 (omega (arith, length-map ports (λ (q : Port). q.cell))) in
+    omega (arith, here, get_or-cells_of ports k p small is)
+
+-- ---- inputs
+-- the input at place k is put into its cell, and then those behind it are
+with_inputs-drop : (ports : List Port) (bits m : List Bool) (k : ℕ) (d : Port) → k < length ports → length bits ≡ length ports →
+    with_inputs (drop k ports) (drop k bits) m ≡ with_inputs (drop (k + 1) ports) (drop (k + 1) bits) (set m (get_or ports k d).cell (get_or bits k false))
+with_inputs-drop [] bits m k d small long = absurd (omega arith)
+with_inputs-drop (p ∷ ps) [] m k d small long = absurd (omega arith)
+with_inputs-drop (p ∷ ps) (b ∷ bits) m zero d small long = refl
+with_inputs-drop (p ∷ ps) (b ∷ bits) m (suc k) d small long =
+    let next : suc k + 1 ≡ suc (k + 1) = omega arith in
+    rw next (with_inputs-drop ps bits m k d (omega arith) (omega arith))
+
+-- one more column of inputs was put into its cell
+pub loaded_more : (ports : List Port) (t : TileView) (r k : ℕ) (p : Port) (words : List ℕ) (old new m : List Bool) →
+    p ≡ get_or ports k p → k < length ports → t.columns ≡ length ports → lane words r ≡ get_or (tile_row t r) k false → new ≡ set old p.cell (lane words r) →
+    with_inputs (drop k ports) (drop k (tile_row t r)) old ≡ m → with_inputs (drop (k + 1) ports) (drop (k + 1) (tile_row t r)) new ≡ m
+loaded_more ports t r k p words old new m is small columns bit_is new_is before =
+    let rest : List Bool → List Bool = λ l. with_inputs (drop (k + 1) ports) (drop (k + 1) (tile_row t r)) l in
+    ap rest new_is
+    ∙ ap (λ (b : Bool). rest (set old p.cell b)) bit_is
+    ∙ ap (λ (q : Port). rest (set old q.cell (get_or (tile_row t r) k false))) is
+    ∙ sym (with_inputs-drop ports (tile_row t r) old k p small (length-tile_row t r ∙ columns))
+    ∙ before
+
+-- ---- outputs
+-- one more column of results was written
+pub gathered_more : (ports : List Port) (b : BankView) (t : TileView) (r k : ℕ) (p : Port) (words : List ℕ) (new : List Bool) →
+    p ≡ get_or ports k p → k < length ports → t.columns ≡ length ports → lane words r ≡ bit (row_of b r) p.cell → new ≡ set (tile_row t r) k (lane words r) →
+    ((j : ℕ) → j < k → get_or (tile_row t r) j false ≡ bit (row_of b r) (get_or (cells_of ports) j 0)) →
+    (j : ℕ) → j < k + 1 → get_or new j false ≡ bit (row_of b r) (get_or (cells_of ports) j 0)
+gathered_more ports b t r k p words new is small columns bit_is new_is before =
+    below_more (λ (j : ℕ). get_or new j false ≡ bit (row_of b r) (get_or (cells_of ports) j 0)) k
+    (λ j below.
+    ap (λ (l : List Bool). get_or l j false) new_is
+    ∙ get_or-set_other (tile_row t r) k j (lane words r) false (λ e. omega arith)
+    ∙ before j below)
+    (ap (λ (l : List Bool). get_or l k false) new_is
+    ∙ get_or-set_same (tile_row t r) k (lane words r) false (omega (arith, length-tile_row t r))
+    ∙ bit_is
+    ∙ ap (bit (row_of b r)) (sym (get_or-cells_of ports k p small is)))
+
+map-cells_of : (f : ℕ → Bool) (ports : List Port) → map f (cells_of ports) ≡ map (λ o. f o.cell) ports
+map-cells_of f [] = refl
+map-cells_of f (p ∷ ps) = ap (λ (l : List Bool). f p.cell ∷ l) (map-cells_of f ps)
+
+-- all columns of results were written
+pub gathered : (ports all : List Port) (b : BankView) (t : TileView) (r k : ℕ) → ports ≡ all → t.columns ≡ length ports → length ports ≤ k →
+    ((j : ℕ) → j < k → get_or (tile_row t r) j false ≡ bit (row_of b r) (get_or (cells_of ports) j 0)) →
+    tile_row t r ≡ map (λ o. bit (row_of b r) o.cell) all
+gathered ports all b t r k same columns past before =
+    let P : List Port → Type 0 = λ l. tile_row t r ≡ map (λ o. bit (row_of b r) o.cell) l in
+    let cells : ℕ = length (cells_of ports) in
+    let many : length (cells_of ports) ≡ length ports = length-map ports (λ (q : Port). q.cell) in
+    subst P same
+    (ext_get_or false (tile_row t r) (map (bit (row_of b r)) (cells_of ports))
+    (length-tile_row t r ∙ columns ∙ sym (length-map (cells_of ports) (bit (row_of b r)) ∙ many))
+    (λ j within.
+    let small : j < length ports = omega (arith, length-tile_row t r) in
+    before j (omega arith) ∙ sym (get_or-map (bit (row_of b r)) (cells_of ports) j 0 false (omega arith)))
+    ∙ map-cells_of (bit (row_of b r)) ports)
+
+-- ---- lines
+-- lines of which each is another one's
+pub lines_same : (f : List Bool → List ℕ) (g : ℕ → List Bool) (h : ℕ → List ℕ) (a n : ℕ) → ((r : ℕ) → a ≤ r → r < a + n → f (g r) ≡ h r) →
+    flat_map f (map g (range_with_len a n)) ≡ flat_map h (range_with_len a n)
+lines_same f g h a zero same = refl
+lines_same f g h a (suc n) same =
+    ap (λ (l : List ℕ). l ++ flat_map f (map g (range_with_len (a + 1) n))) (same a (omega arith) (omega arith))
+    ∙ ap (λ (l : List ℕ). h a ++ l) (lines_same f g h (a + 1) n (λ r above below. same r (omega arith) (omega arith)))
+
+range-add : (a n m : ℕ) → range_with_len a (n + m) ≡ range_with_len a n ++ range_with_len (a + n) m
+range-add a zero m =
+    let start : zero + m ≡ m = omega arith in
+    let same : a + zero ≡ a = omega arith in
+    rw (start, same) refl
+range-add a (suc n) m =
+    let start : suc n + m ≡ suc (n + m) = omega arith in
+    let same : a + suc n ≡ a + 1 + n = omega arith in
+    rw (start, same) (ap (λ (l : List ℕ). a ∷ l) (range-add (a + 1) n m))
+
+-- the lines before a row, the row's line, and those behind it
+pub row_lines-split : (t : TileView) (n d : ℕ) → row_lines t (n + suc d) ≡ row_lines t n ++ (row_line t n ++ flat_map (row_line t) (range_with_len (n + 1) d))
+row_lines-split t n d =
+    let same : 0 + n ≡ n = omega arith in
+    ap (flat_map (row_line t)) (range-add 0 n (suc d))
+    ∙ flat_map-append (row_line t) (range_with_len 0 n) (range_with_len (0 + n) (suc d))
+    ∙ ap (λ (k : ℕ). row_lines t n ++ flat_map (row_line t) (range_with_len k (suc d))) same

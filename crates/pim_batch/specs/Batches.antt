@@ -1,0 +1,39 @@
+-- Vectors that are executed together.
+use Rattle.std.specs.Prelude.{◌≡◌, ℕ, ◌+◌, ◌*◌, ◌≤◌, ◌++◌, ◌∷◌, [], Bool, List, length, take}
+use Rattle.pim_isa.specs.Programs.{ProgramView}
+use Rattle.pim_isa.specs.declared.target.Fill.{Fill}
+use Rattle.pim_lanes.specs.Banks.{BankView}
+use Rattle.std.specs.List.{flat_map, range_with_len}
+use Rattle.pim_io.specs.Bits.{line_of}
+use Rattle.pim_vectors.specs.Tiles.{TileView, row_of}
+use Rattle.pim_batch.specs.Tables.{tile_words}
+
+-- the program, the filling of its other cells, and the bits of the vectors that are packed
+pub record BatchView : Type 0 where
+  pub program : ProgramView
+  pub fill : Fill
+  pub vectors : List (List Bool)
+
+-- a line of so many characters has room in the list, and a newline stands behind it
+pub record IsRoom (columns : ℕ) (line : List ℕ) : Type 0 where
+  pub long : length line ≡ columns + 1
+  pub ended : line ≡ take columns line ++ 10 ∷ []
+
+-- what every batch keeps: the sizes that its program asks for, room for a line and for the rows
+pub record IsBatch (p : ProgramView) (bank : BankView) (vectors results : TileView) (line : List ℕ) (rows : ℕ) : Type 0 where
+  pub cells : bank.cells ≡ p.cells
+  pub words : bank.words ≡ tile_words p
+  pub vector_columns : vectors.columns ≡ length p.inputs
+  pub vector_words : vectors.words ≡ tile_words p
+  pub result_columns : results.columns ≡ length p.outputs
+  pub result_words : results.words ≡ tile_words p
+  pub line_room : IsRoom (length p.outputs) line
+  pub row_room : rows ≤ 64 * tile_words p
+
+-- a row of a tile as a line
+abbrev pub row_line : TileView → ℕ → List ℕ
+row_line t r = line_of (row_of t r) ++ 10 ∷ []
+
+-- the first rows of a tile, a line for each
+abbrev pub row_lines : TileView → ℕ → List ℕ
+row_lines t rows = flat_map (row_line t) (range_with_len 0 rows)

@@ -1,0 +1,115 @@
+ghost use Rattle.std.specs.Prelude.{◌≡◌, ◌+◌, ◌*◌, ◌<◌, ◌≤◌, ◌++◌, ◌∷◌, ◌↔◌, [], length, IsTrue, OnOk, OnErr, IfOk};
+ghost use Rattle.pim_io.specs.Bits.{bits_of};
+ghost use Rattle.pim_io.specs.Outside.{Rose, TookAll, TookFirst};
+ghost use Rattle.pim_vectors.specs.Tiles.{IsVector};
+ghost use Rattle.pim_batch.specs.Tables.{table, tile_rows, tile_words};
+
+use crate::{lines, rows};
+use pim_io::{NoMemory, Sink, SinkFault};
+use pim_isa::{Fill, Program};
+use pim_lanes::Bank;
+use pim_vectors::Tile;
+use std::alloc::Global;
+use std::marker::Model;
+
+/// The vectors that were packed and not executed yet, with all that executing them takes: a bank, a tile of vectors, a tile
+/// of results and one line of them.
+#[derive(Debug, Drop)]
+pub struct Batch<'a> {
+    program: &'a Program,
+    fill: Fill,
+    bank: Bank,
+    vectors: Tile,
+    results: Tile,
+    line: Vec<u8>,
+    rows: u32,
+}
+
+impl<'a> Model for Batch<'a> {
+    ghost use Rattle.std.specs.Prelude.{map};
+    ghost use Rattle.std.specs.List.{range_with_len};
+    ghost use Rattle.pim_vectors.specs.Tiles.{row_of};
+    ghost use Rattle.pim_batch.specs.Batches.{BatchView, IsBatch};
+
+    ghost Value = { BatchView };
+
+    ghost view = { λ b. record {
+      program = b.program.now;
+      fill = b.fill;
+      vectors = map (row_of b.vectors) (range_with_len 0 b.rows);
+    } };
+
+    ghost invariant = { λ b. IsBatch b.program.now b.bank b.vectors b.results b.line.items b.rows };
+}
+
+impl<'a> Batch<'a> {
+    /// A batch of no vectors. Takes all the memory that executing vectors takes: a column of words for each cell, input and output,
+    /// of 64 words, or of 4 where the program has more than 65,536 cells or outputs.
+    pub fn new(alloc: Global, program: &'a Program, fill: Fill) -> Result<Batch<'a>, NoMemory>
+        ensures { IfOk result (λ batch. batch ≡ record { program = program.now; fill = fill; vectors = [] }) }
+    {
+        let words = tile_words(program);
+        let inputs = program.inputs().len() as u32;
+        let outputs = program.outputs().len() as u32;
+        Ok(Batch {
+            program,
+            fill,
+            bank: Bank::new(alloc, program.cells(), words)?,
+            vectors: Tile::new(alloc, inputs, words)?,
+            results: Tile::new(alloc, outputs, words)?,
+            line: vec![in alloc; b'\n'; outputs as usize + 1]?,
+            rows: 0,
+        })
+    }
+
+    /// Whether no further vector can be packed.
+    pub fn is_full(&self) -> bool
+        ensures full { IsTrue result ↔ (length self.now.vectors ≡ tile_rows self.now.program) }
+        ensures within { length self.now.vectors ≤ tile_rows self.now.program }
+    {
+        self.rows as usize == 64 * tile_words(self.program)
+    }
+
+    /// Packs one more vector, a line of the characters `0` and `1`. Linear in the line.
+    pub fn push(&mut self, line: &[u8])
+        requires vector { IsVector (length self.old.program.inputs) line.now }
+        requires room { length self.old.vectors < tile_rows self.old.program }
+        ensures { self.new ≡ record self.old { vectors = self.old.vectors ++ bits_of line.now ∷ [] } }
+    {
+        self.vectors.pack(self.rows, line);
+        self.rows += 1;
+    }
+
+    /// Executes the vectors that are packed and writes a line of the characters `0` and `1` for each, in order; none is packed then.
+    /// After a fault the vectors are still packed, and a second call would write those lines again that the sink took: drop the
+    /// batch. The program runs once, in all rows of the tile: a kernel or two for each instruction and one for each cell that an Init
+    /// names. Beside that the cost is linear in the cells and outputs and in the characters that are written. Takes no memory.
+    pub fn flush<K: Sink>(&mut self, output: &mut K) -> Result<(), SinkFault>
+        ensures whole { OnOk result (TookAll (K.taken output.old) (K.taken output.new)
+            (table self.old.program self.old.fill self.old.vectors)) }
+        ensures prefix { OnErr result (TookFirst (K.taken output.old) (K.taken output.new)
+            (table self.old.program self.old.fill self.old.vectors)) }
+        ensures counted { OnErr result (Rose (K.faults output.old) (K.faults output.new)) }
+        ensures never_falls { K.faults output.old ≤ K.faults output.new }
+        ensures emptied { OnOk result (self.new ≡ record self.old { vectors = [] }) }
+        ensures stays { OnErr result (self.new ≡ self.old) }
+    {
+        rows::load_vectors(&mut self.bank, self.program, self.fill, &self.vectors);
+        self.bank.run(self.program);
+        rows::gather_results(&mut self.results, self.program, &self.bank);
+        lines::write_results(&self.results, self.rows, &mut self.line, output)?;
+        self.rows = 0;
+        Ok(())
+    }
+}
+
+/// How many words a column has: as many as 4,096 rows take, and as 256 rows take where a program has many cells or outputs.
+fn tile_words(program: &Program) -> usize
+    ensures { result ≡ tile_words program.now }
+{
+    if program.cells() <= 65_536 && program.outputs().len() <= 65_536 {
+        64
+    } else {
+        4
+    }
+}

@@ -1,0 +1,11 @@
+//! Vectors that are executed together: each is a row of a tile, a program runs in all rows of a bank at once, and a line of
+//! characters is written for each.
+#![tactic(auto)]
+
+mod batch;
+mod lines;
+mod rows;
+#[cfg(test)]
+mod tests;
+
+pub use batch::Batch;

@@ -1,0 +1,50 @@
+-- The netlist of a BLIF file (BLIF 1992, "Models" and "Logic Gates", in this project's profile): each statement is judged
+-- from the statements before it alone, and the first faulty one gives the fault; without one, the statements make a netlist.
+use Rattle.std.specs.Prelude.{ℕ, List, [], ◌∷◌, map, Option, Some, None, Result, Ok, Err, if◌then◌else◌}
+use Rattle.std.specs.Option.{option_or}
+use Rattle.pim_io.specs.Names.{label}
+use Rattle.pim_net.specs.Netlist.{DraftView}
+use Rattle.pim_net.specs.Faults.{net_fault}
+use Rattle.pim_net.specs.declared.fault.NetFault.{NetFault}
+use Rattle.pim_blif.specs.declared.fault.BlifFault.{BlifFault}
+use Rattle.pim_blif.specs.declared.fault.BlifFault.TheVariants as faults
+use Rattle.pim_blif.specs.Statements.{Statement, statements}
+use Rattle.pim_blif.specs.StatementFaults.{fault_of}
+use Rattle.pim_blif.specs.Judging.{Known, without_cover}
+use Rattle.pim_blif.specs.Netlists.{names_of, netlist_of}
+
+-- the fault of the first faulty statement, where these stand before, the latest first
+abbrev pub first_fault : List Statement → List Statement → Option BlifFault
+first_fault before [] = None
+first_fault before (s ∷ rest) = option_or (fault_of before s) (first_fault (s ∷ before) rest)
+
+-- a file without a statement has a fault in its first line
+abbrev pub file_fault : List Statement → Option BlifFault
+file_fault [] = Some (faults.Syntax 1)
+file_fault (s ∷ rest) = first_fault [] (s ∷ rest)
+
+-- a netlist that has this fault, or none; the fault comes with the labels of the signals
+abbrev pub with_fault : List (List ℕ) → DraftView → Option NetFault → Result DraftView BlifFault
+with_fault names draft None = Ok draft
+with_fault names draft (Some fault) = Err (faults.Net fault (map label names))
+
+-- a netlist that was read whole, where it is well-formed
+unfoldable pub judged_net : List (List ℕ) → DraftView → Result DraftView BlifFault
+judged_net names draft = with_fault names draft (net_fault draft)
+
+-- the netlist of all that is known, where there was a statement; the cover that is open ends with the file
+abbrev pub outcome : Known → Result DraftView BlifFault
+outcome k = if k.started then judged_net k.names (without_cover k).draft else Err (faults.Syntax 1)
+
+-- the netlist of statements that have this fault, or none
+abbrev pub unless_faulty : List Statement → Option BlifFault → Result DraftView BlifFault
+unless_faulty statements None = judged_net (names_of statements) (netlist_of statements)
+unless_faulty statements (Some fault) = Err fault
+
+-- the netlist of these statements
+unfoldable pub netlist_by : List Statement → Result DraftView BlifFault
+netlist_by statements = unless_faulty statements (file_fault statements)
+
+-- the netlist of a file
+unfoldable pub net_of : List ℕ → Result DraftView BlifFault
+net_of bytes = netlist_by (statements bytes)

@@ -1,0 +1,23 @@
+-- What a walk over statements holds and has left.
+use Rattle.std.specs.Prelude.{ℕ, ◌+◌, List, [], ◌∷◌, length, map, None}
+use Rattle.std.specs.Borrow.{Bor}
+use Rattle.pim_io.specs.Lines.{LineView}
+use Rattle.pim_blif.specs.Statements.{Statement, statements_after}
+
+-- the words of the present statement, and the lines that are left
+pub record StatementsView : Type 0 where
+  pub words : List (List ℕ)
+  pub lines : List LineView
+
+-- the bytes that slices lend
+abbrev pub texts : List (Bor (List ℕ)) → List (List ℕ)
+texts slices = map (λ (slice : Bor (List ℕ)). slice.now) slices
+
+-- the statements that a walk has left
+abbrev pub statements_left : StatementsView → List Statement
+statements_left walk = statements_after None walk.lines
+
+-- the bytes of lines, each with the newline that may end it
+abbrev pub room : List LineView → ℕ
+room [] = 0
+room (line ∷ lines) = length line.text + 1 + room lines

@@ -1,0 +1,25 @@
+-- The names of signals, and their numbers: a name has the place at which it first came.
+use Rattle.std.specs.Prelude.{ℕ, suc, List, [], ◌∷◌, ◌++◌, Bool, if◌then◌else◌, length, nat_lt}
+use Rattle.std.specs.Str.{bytes_eq}
+
+-- the number of a name: its place among the names, and for a new one the place behind them
+abbrev pub number_of : List (List ℕ) → List ℕ → ℕ
+number_of [] name = 0
+number_of (known ∷ names) name = if bytes_eq known name then 0 else suc (number_of names name)
+
+-- whether a name is among the names
+abbrev pub is_known : List (List ℕ) → List ℕ → Bool
+is_known names name = nat_lt (number_of names name) (length names)
+
+-- the names, with one that is appended where it is new
+abbrev pub with_name : List (List ℕ) → List ℕ → List (List ℕ)
+with_name names name = if is_known names name then names else names ++ name ∷ []
+
+-- the names, with each of these words that is new appended in turn
+abbrev pub with_names : List (List ℕ) → List (List ℕ) → List (List ℕ)
+with_names names [] = names
+with_names names (word ∷ words) = with_names (with_name names word) words
+
+-- the distinct words, in the order of their first coming
+abbrev pub distinct : List (List ℕ) → List (List ℕ)
+distinct words = with_names [] words

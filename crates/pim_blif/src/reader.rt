@@ -1,0 +1,169 @@
+ghost use Rattle.std.specs.Prelude.{◌≡◌, ◌+◌, ◌<◌, ◌≤◌, ◌^◌, ℕ, List, [], None, All, length, OnOk, IfSome};
+ghost use Rattle.pim_blif.specs.Reading.{texts};
+ghost use Rattle.pim_blif.specs.Judging.{known_from, with_input, with_output, each, with_cover, row_of, without_cover};
+ghost use Rattle.pim_blif.specs.Readers.{words_used};
+ghost use Rattle.pim_blif.specs.Steps.{Gives};
+
+use crate::cover::{add_row, empty_cover};
+use crate::fault::BlifFault;
+use crate::inputs::InputMarks;
+use crate::signals::{signal, signals};
+use crate::table::NameTable;
+use pim_io::NoMemory;
+use pim_net::{Bit3, Draft, Equation, Kind, OutRef};
+use std::alloc::Global;
+use std::marker::Model;
+
+mod closing;
+mod taking;
+
+/// What the statements of a file say, as far as they were read.
+#[derive(Drop)]
+pub(crate) struct Reader<'a> {
+    alloc: Global,
+    names: NameTable<'a>,
+    marks: InputMarks,
+    outputs: u32,
+    draft: Draft,
+    cover: Option<Equation>,
+    cells: Vec<Bit3>,
+    started: bool,
+    ended: bool,
+}
+
+impl<'a> Model for Reader<'a> {
+    ghost use Rattle.pim_blif.specs.Judging.{Known};
+    ghost use Rattle.pim_blif.specs.Readers.{IsReader};
+
+    ghost Value = { Known };
+
+    ghost view = { λ r. record {
+      names = r.names;
+      draft = r.draft;
+      cover = r.cover;
+      started = r.started;
+      ended = r.ended;
+    } };
+
+    ghost invariant = { λ r. IsReader r.draft r.marks r.outputs r.cover };
+}
+
+impl<'a> Reader<'a> {
+    /// A reader that stands before the first statement. It takes no memory.
+    #[tactic(auto, using(crate::proofs::Marks::marks_none))]
+    pub(crate) fn new(alloc: Global) -> Reader<'a>
+        ensures { result ≡ known_from [] }
+    {
+        Reader {
+            alloc,
+            names: NameTable::new(alloc),
+            marks: InputMarks::new(alloc),
+            outputs: 0,
+            draft: Draft::new(alloc),
+            cover: None,
+            cells: Vec::new(alloc),
+            started: false,
+            ended: false,
+        }
+    }
+
+    /// Takes up an input of a name, which is not one already.
+    #[tactic(auto, using(crate::proofs::Marks::few_inputs, crate::proofs::Marks::marks_same, crate::proofs::Marks::marks_more), unfolding(crate::specs::Judging::with_input))]
+    fn add_input(&mut self, line: u32, name: &'a [u8]) -> Result<(), BlifFault>
+        requires { 0 < length name.now }
+        ensures exact { Gives (λ _. self.new) result (with_input line self.old name.now) }
+        ensures used { OnOk result (words_used self.new ≡ words_used self.old) }
+    {
+        let sig = signal(&mut self.names, name)?;
+        if self.marks.is_marked(sig) {
+            return Err(BlifFault::TwiceInput(line));
+        }
+        self.marks.make_room(sig)?;
+        self.draft.add_input(sig, name)?;
+        self.marks.mark(sig);
+        Ok(())
+    }
+
+    /// Takes up an output of a name; there are at most 1,048,576.
+    #[tactic(auto, unfolding(crate::specs::Judging::with_output))]
+    fn add_output(&mut self, name: &'a [u8]) -> Result<(), BlifFault>
+        requires { 0 < length name.now }
+        ensures exact { Gives (λ _. self.new) result (with_output self.old name.now) }
+        ensures used { OnOk result (words_used self.new ≡ words_used self.old) }
+    {
+        let sig = signal(&mut self.names, name)?;
+        if self.outputs >= 1_048_576 {
+            return Err(BlifFault::TooLarge(Kind::Outputs));
+        }
+        self.draft.add_output(OutRef { sig, neg: false }, name)?;
+        self.outputs += 1;
+        Ok(())
+    }
+
+    /// Takes up inputs, from left to right.
+    fn add_inputs(&mut self, line: u32, names: &[&'a [u8]]) -> Result<(), BlifFault>
+        requires { All (λ (word : List ℕ). 0 < length word) (texts names.now) }
+        ensures exact { Gives (λ _. self.new) result (each (with_input line) self.old (texts names.now)) }
+        ensures used { OnOk result (words_used self.new ≡ words_used self.old) }
+    {
+        for name in names {
+            self.add_input(line, name)?;
+        }
+        Ok(())
+    }
+
+    /// Takes up outputs, from left to right.
+    fn add_outputs(&mut self, names: &[&'a [u8]]) -> Result<(), BlifFault>
+        requires { All (λ (word : List ℕ). 0 < length word) (texts names.now) }
+        ensures exact { Gives (λ _. self.new) result (each with_output self.old (texts names.now)) }
+        ensures used { OnOk result (words_used self.new ≡ words_used self.old) }
+    {
+        for name in names {
+            self.add_output(name)?;
+        }
+        Ok(())
+    }
+
+    /// Begins a cover of these names, of which the last is driven by the others.
+    fn begin_cover(&mut self, line: u32, names: &[&'a [u8]]) -> Result<(), BlifFault>
+        requires bytes { All (λ (word : List ℕ). 0 < length word) (texts names.now) }
+        requires few { length names.now < 2 ^ 28 }
+        ensures exact { Gives (λ _. self.new) result (with_cover line self.old (texts names.now)) }
+        ensures used { self.old.cover ≡ None → OnOk result (words_used self.new ≤ words_used self.old + length names.now + 1) }
+    {
+        if names.is_empty() {
+            return Err(BlifFault::Syntax(line));
+        }
+        let signals = signals(self.alloc, &mut self.names, names)?;
+        let cover = empty_cover(self.alloc, &signals)?;
+        self.cover = Some(cover);
+        Ok(())
+    }
+
+    /// Takes up a row of the open cover.
+    fn add_row(&mut self, line: u32, words: &[&[u8]]) -> Result<(), BlifFault>
+        requires { IfSome self.old.cover (λ e. length e.cover.rows < 2 ^ 28) }
+        ensures exact { Gives (λ _. self.new) result (row_of line self.old self.old.cover (texts words.now)) }
+        ensures used { OnOk result (words_used self.new ≤ words_used self.old + 1) }
+    {
+        let Some(equation) = self.cover.take() else {
+            return Err(BlifFault::Syntax(line));
+        };
+        let equation = add_row(self.alloc, line, words, equation, &mut self.cells)?;
+        self.cover = Some(equation);
+        Ok(())
+    }
+
+    /// Ends the cover that is open, as every directive does.
+    fn end_cover(&mut self) -> Result<(), NoMemory>
+        requires { length self.old.draft.equations + 1 < 2 ^ 28 }
+        ensures exact { OnOk result (self.new ≡ without_cover self.old) }
+        ensures used { OnOk result (words_used self.new ≤ words_used self.old) }
+    {
+        self.started = true;
+        if let Some(Equation { sig, cover }) = self.cover.take() {
+            self.draft.add_cover(sig, cover)?;
+        }
+        Ok(())
+    }
+}

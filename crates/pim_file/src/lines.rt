@@ -1,0 +1,66 @@
+ghost use Rattle.std.specs.Prelude.{◌≡◌, IfSome, IsTrue, option_map};
+ghost use Rattle.std.specs.List.{list_all};
+ghost use Rattle.pim_io.specs.Names.{IsLabel};
+ghost use Rattle.pim_file.specs.LineForms.{target_of, counted_of, is_shown, is_label, port_view, port_of};
+
+use crate::fields::{behind, first_space, is_text, plain_number};
+use pim_isa::Target;
+
+/// The target that a line names.
+pub(crate) fn target(line: &[u8]) -> Option<Target>
+    ensures { result ≡ target_of line.now }
+{
+    if is_text(line, b"target magic") {
+        Some(Target::Magic)
+    } else if is_text(line, b"target plim") {
+        Some(Target::Plim)
+    } else {
+        None
+    }
+}
+
+/// The number of a line that is this word and a number.
+pub(crate) fn counted(word: &[u8], line: &[u8]) -> Option<u32>
+    ensures { result ≡ counted_of word.now line.now }
+{
+    plain_number(behind(word, line)?)
+}
+
+/// Whether each byte may stand in a label: none is below 32, and none is 127.
+fn are_shown(text: &[u8]) -> bool
+    ensures { result ≡ list_all is_shown text.now }
+{
+    text.iter().all(|b| *b >= 32 && *b != 127)
+}
+
+/// Whether a text is a label.
+#[tactic(auto, using(crate::proofs::LabelLemmas::label_test))]
+fn is_label(text: &[u8]) -> bool
+    ensures test { result ≡ is_label text.now }
+    ensures label { IsTrue result → IsLabel text.now }
+{
+    !text.is_empty() && text.len() <= 4096 && are_shown(text)
+}
+
+/// A port as a line spells it.
+#[derive(Clone, Copy, Debug)]
+pub(crate) struct PortLine<'a> {
+    pub(crate) cell: u32,
+    pub(crate) label: &'a [u8],
+}
+
+/// The port of a line that is this word, a cell, and a label to the end of the line.
+pub(crate) fn port<'a>(word: &[u8], line: &'a [u8]) -> Option<PortLine<'a>>
+    ensures port { option_map port_view result ≡ port_of word.now line.now }
+    ensures label { IfSome result (λ port. IsLabel port.label.now) }
+{
+    let text = behind(word, line)?;
+    let space = first_space(text)?;
+    let cell = plain_number(&text[..space])?;
+    let label = &text[space + 1..];
+    if is_label(label) {
+        Some(PortLine { cell, label })
+    } else {
+        None
+    }
+}

@@ -1,0 +1,68 @@
+ghost use Rattle.std.specs.Prelude.{◌≡◌, ◌≤◌, ◌↔◌, [], length, Ok, IfOk};
+ghost use Rattle.pim_io.specs.Lines.{lines};
+ghost use Rattle.pim_isa.specs.Programs.{ProgramView};
+ghost use Rattle.pim_file.specs.Spelled.{HasText, HasFewParts};
+ghost use Rattle.pim_file.specs.Steps.{Gives};
+ghost use Rattle.pim_file.specs.Text.{text as text_of};
+ghost use Rattle.pim_file.specs.Reading.{start};
+ghost use Rattle.pim_file.specs.Right.{first_wrong, is_cut_off, wrong_line, is_truncated};
+ghost use Rattle.pim_file.specs.ProgramFile.{read_from, within_limit, program_within_limit, draft_of, parse1_of};
+
+use crate::fault::FileFault;
+use crate::reader::Reader;
+use pim_io::Scan;
+use pim_isa::{Program, ProgramDraft};
+use std::alloc::Global;
+
+/// The program that a text is of, or the first fault: the first line that may not stand where it stands, else that the
+/// line `end` is missing, else that there are too many cells, else what makes the program invalid. Linear in the bytes.
+pub fn parse_text(alloc: Global, bytes: &[u8]) -> Result<Program, FileFault>
+    requires { length bytes.now ≤ 536870912 }
+    ensures exact { Gives (λ program. program) result (parse1_of bytes.now) }
+
+    // A line is judged by the last line before it, and by how many lines have followed the number of cycles.
+    ensures line { wrong_line (parse1_of bytes.now) ≡ first_wrong [] (lines bytes.now) }
+    ensures truncated { is_truncated (parse1_of bytes.now) ≡ is_cut_off [] (lines bytes.now) }
+
+    // The draft is the one whose text the bytes are.
+    ensures draft { (d : ProgramView) → (draft_of bytes.now ≡ Ok d) ↔ (HasText d × (bytes.now ≡ text_of d)) }
+
+    // No other bytes are read as this program.
+    ensures spelled { IfOk result (λ program. bytes.now ≡ text_of program) }
+{
+    validated(alloc, bytes)
+}
+
+/// The program that a program file holds, as `parse_text` gives it.
+pub fn parse(alloc: Global, bytes: &[u8]) -> Result<Program, FileFault>
+    requires { length bytes.now ≤ 536870912 }
+    ensures exact { Gives (λ program. program) result (parse1_of bytes.now) }
+
+    // No other bytes are read as this program.
+    ensures spelled { IfOk result (λ program. bytes.now ≡ text_of program) }
+{
+    parse_text(alloc, bytes)
+}
+
+/// The program of the draft of a program file.
+fn validated(alloc: Global, bytes: &[u8]) -> Result<Program, FileFault>
+    requires { length bytes.now ≤ 536870912 }
+    ensures { Gives (λ program. program) result (program_within_limit bytes.now) }
+{
+    let draft = draft(alloc, bytes)?;
+    Ok(Program::new(draft)?)
+}
+
+/// The draft of a program file, not checked yet.
+fn draft(alloc: Global, bytes: &[u8]) -> Result<ProgramDraft, FileFault>
+    requires { length bytes.now ≤ 536870912 }
+    ensures exact { Gives (λ draft. draft) result (read_from within_limit start (lines bytes.now)) }
+    ensures few { IfOk result HasFewParts }
+{
+    let mut reader = Reader::new(alloc);
+    let mut scan = Scan::new(bytes);
+    while let Some(line) = scan.line() {
+        reader.line(line)?;
+    }
+    reader.finish()
+}

@@ -1,0 +1,20 @@
+use pim_isa::Target;
+
+/// Which lines may come next in a program file.
+#[derive(Clone, Copy, Debug, PartialEq, Eq)]
+pub(crate) enum Section {
+    /// The form.
+    Form,
+    /// The target.
+    Target,
+    /// The number of cells, of a program for this target.
+    Cells(Target),
+    /// An input, an output, or the number of cycles.
+    Inputs,
+    /// An output, or the number of cycles.
+    Outputs,
+    /// As many instructions as this, and then `end`.
+    Instrs(u32),
+    /// None.
+    Ended,
+}
