@@ -1,16 +1,16 @@
 -- How `compile` ends, by the bytes of its netlist.
-use Rattle.std.proofs.Common.{◌≡◌, ◌⊎◌, ℕ, List, Option, Some, None, Ok, Err, true, false, inl, inr, refl, ap, subst, arith}
-use Rattle.pim_io.specs.Outside.{Rose, Told}
+use Rattle.std.proofs.Common.{◌≡◌, ◌⊎◌, ℕ, List, Option, Some, None, Ok, Err, true, inl, inr, refl, subst, arith}
+use Rattle.pim_io.specs.Outside.{Rose}
 use Rattle.pim_net.specs.Netlist.{DraftView, NetView, draft_of}
 use Rattle.pim_aiger.specs.declared.fault.AigerFault.TheVariants as aiger
 use Rattle.pim_blif.specs.declared.fault.BlifFault.TheVariants as blif
 use Rattle.pim_words.specs.Reading.{is_usage}
-use Rattle.pim_words.specs.declared.command.Command.TheVariants.{Compile, Run}
+use Rattle.pim_words.specs.declared.command.Command.TheVariants.{Compile}
 use Rattle.pim_top.specs.Compiled.{CompilesInPart}
 use Rattle.pim_top.specs.Cuts.{Cuts}
 use Rattle.pim_top.specs.Netlists.{net_of, IsFault}
 use Rattle.pim_top.specs.Outcomes.{IsCounted, IsExplained, IsFaulty, IsFine}
-use Rattle.pim_top.specs.Refusals.{CompileRefuses, Explains, HasTooManyNodes, IsOfBytes, NeedsMore, WasRead}
+use Rattle.pim_top.specs.Refusals.{CompileRefuses, Explains}
 use Rattle.pim_top.specs.Statuses.{status_of}
 use Rattle.pim_top.specs.declared.netlist.NetlistFault.{NetlistFault}
 use Rattle.pim_top.specs.declared.netlist.NetlistFault.TheVariants.{Aiger, Blif}

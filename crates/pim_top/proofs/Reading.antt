@@ -4,7 +4,6 @@ use Rattle.pim_io.specs.Outside.{Rose, Told}
 use Rattle.pim_top.specs.Outcomes.{IsCounted}
 use Rattle.pim_top.specs.Reads.{IsUnread}
 use Rattle.pim_top.specs.Refusals.{CompileRefuses}
-use Rattle.pim_top.specs.declared.netlist.NetlistFault.{NetlistFault}
 use Rattle.pim_top.specs.declared.refusal.Limit.TheVariants as limit
 use Rattle.pim_top.specs.declared.refusal.Origin.{Origin}
 use Rattle.pim_top.specs.declared.refusal.Origin.TheVariants as origin

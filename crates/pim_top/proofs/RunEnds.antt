@@ -1,7 +1,7 @@
 -- How `run` ends, by the bytes of its program and of its vectors.
 use Rattle.std.proofs.Common.{◌≡◌, ◌⊎◌, ℕ, ◌<◌, ◌≤◌, true, false, List, Option, Some, None, Ok, Err, Result, length, inl, inr, refl, sym, ap, ◌∙◌, subst, arith}
 use Rattle.std.proofs.lemmas.Bool.{cases_lt}
-use Rattle.pim_io.specs.Outside.{Rose, Told}
+use Rattle.pim_io.specs.Outside.{Rose}
 use Rattle.pim_isa.specs.Programs.{ProgramView}
 use Rattle.pim_isa.specs.declared.target.Fill.{Fill}
 use Rattle.pim_file.specs.ProgramFile.{parse1_of}
@@ -11,10 +11,10 @@ use Rattle.pim_vectors.specs.Lines.{lines}
 use Rattle.pim_words.specs.Reading.{command_said, is_usage}
 use Rattle.pim_words.specs.declared.command.Command.{Command}
 use Rattle.pim_words.specs.declared.command.Command.TheVariants.{Compile, Run}
-use Rattle.pim_top.specs.Outcomes.{Does, IsCounted, IsDone, IsExplained, IsFaultyFile, IsFineRun, IsRefusedRun, IsRunOf, fill_of}
-use Rattle.pim_top.specs.Runs.{FileRefuses, IsFileFault, OfProgram, OfVectors, RunRefuses, VectorsRefuse}
+use Rattle.pim_top.specs.Outcomes.{Does, IsCounted, IsDone, IsExplained, IsFaultyFile, IsFineRun, IsRefusedRun, fill_of}
+use Rattle.pim_top.specs.Runs.{FileRefuses, IsFileFault, OfVectors, VectorsRefuse}
 use Rattle.pim_top.specs.Statuses.{status_of}
-use Rattle.pim_top.specs.Vectors.{AreVectors, HasVector, RanWhole, RefusedAt, verdict}
+use Rattle.pim_top.specs.Vectors.{AreVectors, RanWhole, RefusedAt, verdict}
 use Rattle.pim_top.specs.declared.refusal.Limit.TheVariants as limit
 use Rattle.pim_top.specs.declared.refusal.Origin.TheVariants as origin
 use Rattle.pim_top.specs.declared.refusal.Refusal.{Refusal}

@@ -1,5 +1,5 @@
 -- One step of a walk: what the output took then, or why the walk ends.
-use Rattle.std.proofs.Common.{◌≡◌, ◌≢◌, ℕ, zero, suc, ◌+◌, ◌-◌, ◌*◌, ◌%◌, ◌<◌, ◌≤◌, Bool, true, false, cond, List, [], ◌∷◌, ◌++◌, length, map, take, Option, Some, None, Ok, Err, inl, inr, refl, sym, ap, ◌∙◌, subst, arith, append_assoc, append-nil, length-append}
+use Rattle.std.proofs.Common.{◌≡◌, ◌≢◌, ℕ, ◌+◌, ◌*◌, ◌<◌, ◌≤◌, Bool, true, false, List, [], ◌∷◌, ◌++◌, length, take, Option, Some, None, inl, inr, refl, sym, ap, ◌∙◌, subst, arith, append_assoc, append-nil, length-append}
 use Rattle.std.proofs.lemmas.Bool.{cases_lt}
 use Rattle.std.proofs.lemmas.Bool.Decides.{nat_tests}
 use Rattle.std.proofs.lemmas.List.{length-map}
@@ -8,11 +8,11 @@ use Rattle.pim_io.specs.Outside.{Rose, Told, TookAll, TookFirst}
 use Rattle.pim_isa.specs.Programs.{ProgramView}
 use Rattle.pim_isa.specs.declared.target.Fill.{Fill}
 use Rattle.pim_batch.specs.Batches.{BatchView}
-use Rattle.pim_batch.specs.Tables.{table, tile_rows, tile_words}
-use Rattle.pim_vectors.specs.Lines.{line_len, lines}
+use Rattle.pim_batch.specs.Tables.{table, tile_rows}
+use Rattle.pim_vectors.specs.Lines.{lines}
 use Rattle.pim_top.specs.Runs.{VectorsRefuse}
-use Rattle.pim_top.specs.Vectors.{AreVectors, RanInPart, RanWhole, after_lines, vectors_of, verdict}
-use Rattle.pim_top.specs.Walks.{Ends, GoesOn, IsRunning, IsWalk, Stops, TakesUp, WalkView, says, start, width}
+use Rattle.pim_top.specs.Vectors.{AreVectors, RanInPart, RanWhole, vectors_of, verdict}
+use Rattle.pim_top.specs.Walks.{Ends, IsRunning, IsWalk, Stops, TakesUp, WalkView, start, width}
 use Rattle.pim_top.specs.declared.refusal.Refusal.{Refusal}
 use Rattle.pim_top.specs.declared.refusal.Refusal.TheVariants as refusal
 use Rattle.pim_top.proofs.Took.{then-first}
@@ -63,7 +63,7 @@ pub step-more : (a b k : Option (List ℕ)) (old new : WalkView) → Told a b (�
 step-more a b k old new told room =
     told-map a b (λ left rest. TakesUp old left rest new) (λ left rest. Told k k (λ taken now. (bytes before : List ℕ) → IsRunning bytes left before taken old → IsRunning bytes rest before now new))
     (λ left rest t. same-told k (λ taken now. (bytes before : List ℕ) → IsRunning bytes left before taken old → IsRunning bytes rest before now new)
-      (λ taken bytes before h. running-more bytes left rest before taken old new t room h))
+    (λ taken bytes before h. running-more bytes left rest before taken old new t room h))
     told
 
 -- ---- a vector more, and the tile is full and was written
@@ -84,8 +84,8 @@ running-full bytes left rest before taken now old mid new t full same wrote h =
           wrote
           ∙ ap (λ (x : List ℕ). x ++ table mid.batch.program mid.batch.fill vs)
           (h.took
-            ∙ ap (λ (q : ProgramView). before ++ table q old.batch.fill h.gone) (sym p)
-            ∙ ap (λ (g : Fill). before ++ table mid.batch.program g h.gone) (sym f))
+          ∙ ap (λ (q : ProgramView). before ++ table q old.batch.fill h.gone) (sym p)
+          ∙ ap (λ (g : Fill). before ++ table mid.batch.program g h.gone) (sym f))
           ∙ append_assoc before (table mid.batch.program mid.batch.fill h.gone) (table mid.batch.program mid.batch.fill vs)
           ∙ ap (λ (x : List ℕ). before ++ x) (sym (table-append mid.batch.program mid.batch.fill h.gone vs));
     })
@@ -99,7 +99,7 @@ pub step-full : (a b k l : Option (List ℕ)) (old mid new : WalkView) → Told 
 step-full a b k l old mid new told full same took =
     told-map a b (λ left rest. TakesUp old left rest mid) (λ left rest. Told k l (λ taken now. (bytes before : List ℕ) → IsRunning bytes left before taken old → IsRunning bytes rest before now new))
     (λ left rest t. took-told k l (table mid.batch.program mid.batch.fill mid.batch.vectors) (λ taken now. (bytes before : List ℕ) → IsRunning bytes left before taken old → IsRunning bytes rest before now new) took
-      (λ taken now wrote bytes before h. running-full bytes left rest before taken now old mid new t full same wrote h))
+    (λ taken now wrote bytes before h. running-full bytes left rest before taken now old mid new t full same wrote h))
     told
 
 -- ---- the end, where the rest was written
@@ -133,11 +133,11 @@ pub step-end : (a b k l : Option (List ℕ)) (old mid new : WalkView) → Told a
 step-end a b k l old mid new told same p f took =
     told-map a b (λ left rest. Ends old left rest mid) (λ left rest. Told k l (λ taken now. (bytes before : List ℕ) → IsRunning bytes left before taken old → RanWhole new.batch.program new.batch.fill bytes rest before now))
     (λ left rest e. took-told k l (table mid.batch.program mid.batch.fill mid.batch.vectors) (λ taken now. (bytes before : List ℕ) → IsRunning bytes left before taken old → RanWhole new.batch.program new.batch.fill bytes rest before now) took
-      (λ taken now wrote bytes before h.
-      let q : old.batch.program ≡ new.batch.program = sym p ∙ sym (ap (λ (w : WalkView). w.batch.program) same) in
-      let g : old.batch.fill ≡ new.batch.fill = sym f ∙ sym (ap (λ (w : WalkView). w.batch.fill) same) in
-      subst (λ (x : Fill). RanWhole new.batch.program x bytes rest before now) g
-      (subst (λ (x : ProgramView). RanWhole x old.batch.fill bytes rest before now) q (ran-whole bytes left rest before taken now old mid e wrote h))))
+    (λ taken now wrote bytes before h.
+    let q : old.batch.program ≡ new.batch.program = sym p ∙ sym (ap (λ (w : WalkView). w.batch.program) same) in
+    let g : old.batch.fill ≡ new.batch.fill = sym f ∙ sym (ap (λ (w : WalkView). w.batch.fill) same) in
+    subst (λ (x : Fill). RanWhole new.batch.program x bytes rest before now) g
+    (subst (λ (x : ProgramView). RanWhole x old.batch.fill bytes rest before now) q (ran-whole bytes left rest before taken now old mid e wrote h))))
     told
 
 -- ---- a refusal before anything was written
@@ -163,7 +163,7 @@ pub step-refused : (a b k : Option (List ℕ)) (old new : WalkView) (r : Refusal
 step-refused a b k old new r other told =
     told-map a b (λ left rest. Stops old left rest new r) (λ left rest. Told k k (λ taken now. (bytes before : List ℕ) → IsRunning bytes left before taken old → VectorsRefuse old.batch.program old.batch.fill bytes rest before now r))
     (λ left rest s. same-told k (λ taken now. (bytes before : List ℕ) → IsRunning bytes left before taken old → VectorsRefuse old.batch.program old.batch.fill bytes rest before now r)
-      (λ taken bytes before h. refuses-here bytes left rest before taken old new r other s h))
+    (λ taken bytes before h. refuses-here bytes left rest before taken old new r other s h))
     told
 
 -- ---- a write that failed
@@ -206,7 +206,7 @@ pub cut-more : (a b k l : Option (List ℕ)) (old mid : WalkView) → Told a b (
 cut-more a b k l old mid told took =
     told-map a b (λ left rest. TakesUp old left rest mid) (λ left rest. Told k l (λ taken now. (bytes before : List ℕ) → IsRunning bytes left before taken old → RanInPart old.batch.program old.batch.fill bytes before now))
     (λ left rest t. first-told k l (table mid.batch.program mid.batch.fill mid.batch.vectors) (λ taken now. (bytes before : List ℕ) → IsRunning bytes left before taken old → RanInPart old.batch.program old.batch.fill bytes before now) took
-      (λ taken now first bytes before h. part-more bytes left rest before taken now old mid t first h))
+    (λ taken now first bytes before h. part-more bytes left rest before taken now old mid t first h))
     told
 
 pub cut-end : (a b k l : Option (List ℕ)) (old mid : WalkView) → Told a b (λ left rest. Ends old left rest mid) → TookFirst k l (table mid.batch.program mid.batch.fill mid.batch.vectors) →
@@ -214,7 +214,7 @@ pub cut-end : (a b k l : Option (List ℕ)) (old mid : WalkView) → Told a b (�
 cut-end a b k l old mid told took =
     told-map a b (λ left rest. Ends old left rest mid) (λ left rest. Told k l (λ taken now. (bytes before : List ℕ) → IsRunning bytes left before taken old → RanInPart old.batch.program old.batch.fill bytes before now))
     (λ left rest e. first-told k l (table mid.batch.program mid.batch.fill mid.batch.vectors) (λ taken now. (bytes before : List ℕ) → IsRunning bytes left before taken old → RanInPart old.batch.program old.batch.fill bytes before now) took
-      (λ taken now first bytes before h. part-end bytes left rest before taken now old mid e first h))
+    (λ taken now first bytes before h. part-end bytes left rest before taken now old mid e first h))
     told
 
 -- a tile that isn't full has room

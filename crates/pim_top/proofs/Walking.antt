@@ -7,7 +7,7 @@ use Rattle.std.proofs.lemmas.Grind.{flat_map-append}
 use Rattle.std.proofs.lemmas.List.{length-map, take-append-le, take_all}
 use Rattle.std.proofs.lemmas.Nat.{mod-mul-add}
 use Rattle.pim_io.specs.Bits.{bits_of}
-use Rattle.pim_io.specs.Outside.{Told, TookAll, TookFirst}
+use Rattle.pim_io.specs.Outside.{Told}
 use Rattle.pim_isa.specs.Programs.{ProgramView}
 use Rattle.pim_isa.specs.declared.target.Fill.{Fill}
 use Rattle.pim_batch.specs.Batches.{BatchView}
@@ -18,11 +18,11 @@ use Rattle.std.specs.Borrow.{Bor}
 use Rattle.pim_vectors.specs.declared.limits.TheConstants.{MAX_LINES}
 use Rattle.pim_vectors.specs.Tiles.{IsVector}
 use Rattle.pim_vectors.specs.Lines.{line_len, lines, without_return}
-use Rattle.pim_vectors.specs.Next.{IsAfter, LinesView, ended, handed, judged, next_of, within_limit}
+use Rattle.pim_vectors.specs.Next.{IsAfter, LinesView, ended, handed, next_of, within_limit}
 use Rattle.pim_vectors.specs.declared.fault.LinesFault.{LinesFault}
 use Rattle.pim_vectors.specs.declared.fault.LinesFault.TheVariants as faults
-use Rattle.pim_top.specs.Vectors.{AreVectors, HasVector, RanInPart, RanTiles, RanWhole, RefusedAt, StoppedAt, after_lines, full_rows, is_vector, line_at, vectors_of, verdict, verdict_of}
-use Rattle.pim_top.specs.Walks.{Ends, GoesOn, IsRunning, IsWalk, Stops, TakesUp, WalkView, says, start, width}
+use Rattle.pim_top.specs.Vectors.{AreVectors, HasVector, RanTiles, RefusedAt, after_lines, full_rows, is_vector, vectors_of, verdict, verdict_of}
+use Rattle.pim_top.specs.Walks.{Ends, IsRunning, IsWalk, Stops, TakesUp, WalkView, says, width}
 use Rattle.pim_top.specs.declared.refusal.Refusal.{Refusal}
 use Rattle.pim_top.specs.declared.refusal.Refusal.TheVariants as refusal
 
@@ -36,8 +36,8 @@ unfolding next_of
 next_of-held v h bytes =
     let piece : List ℕ = within_limit v bytes in
     ap (λ (e : Result (Option (List ℕ)) LinesFault).
-      cond (ltb (line_len piece) (length piece)) (handed v (without_return (take (line_len piece) piece)))
-      (cond (ltb (length piece) (length bytes) && ltb (length piece) (v.longest + 2)) (Err faults.TooLong) e))
+    cond (ltb (line_len piece) (length piece)) (handed v (without_return (take (line_len piece) piece)))
+    (cond (ltb (length piece) (length bytes) && ltb (length piece) (v.longest + 2)) (Err faults.TooLong) e))
     (ended-held v h piece)
 
 -- where no line is left, no byte is

@@ -1,5 +1,5 @@
 -- What `compile` writes.
-use Rattle.std.specs.Prelude.{◌≡◌, ◌≤◌, ◌-◌, ℕ, List, ◌++◌, Option, Some, Ok, length, take}
+use Rattle.std.specs.Prelude.{◌≡◌, ◌≤◌, ◌-◌, ℕ, List, ◌++◌, Option, Ok, length, take}
 use Rattle.pim_io.specs.Outside.{Told}
 use Rattle.pim_net.specs.Netlist.{NetView, draft_of}
 use Rattle.pim_top.specs.Netlists.{net_of}

@@ -1,6 +1,6 @@
 -- What a call did, by the command that its words say.
-use Rattle.std.specs.Prelude.{◌≡◌, ◌⊎◌, ℕ, ◌≤◌, Bool, true, false, List, [], Option, Some, None, Ok, Err, length}
-use Rattle.pim_io.specs.Outside.{Rose, Told}
+use Rattle.std.specs.Prelude.{◌≡◌, ℕ, ◌≤◌, Bool, true, false, List, Option, Some, None, Ok, Err, length}
+use Rattle.pim_io.specs.Outside.{Rose}
 use Rattle.pim_net.specs.Netlist.{DraftView, NetView, draft_of}
 use Rattle.pim_net.specs.WellFormed.{IsNet}
 use Rattle.pim_isa.specs.Programs.{ProgramView}

@@ -1,7 +1,7 @@
 -- Which inputs a command refuses, and why.
-use Rattle.std.specs.Prelude.{◌≡◌, ◌⊎◌, ℕ, ◌<◌, ◌≤◌, List, [], Option, Some, Ok, Err, false, length}
+use Rattle.std.specs.Prelude.{◌≡◌, ◌⊎◌, ℕ, ◌<◌, ◌≤◌, List, [], Option, Ok, Err, length}
 use Rattle.pim_io.specs.Outside.{Told}
-use Rattle.pim_net.specs.Netlist.{DraftView, NetView, draft_of}
+use Rattle.pim_net.specs.Netlist.{NetView, draft_of}
 use Rattle.pim_net.specs.WellFormed.{IsNet}
 use Rattle.pim_net.specs.declared.fault.NetFault.TheVariants as net
 use Rattle.pim_net.specs.declared.kind.Kind.{Kind}
@@ -10,7 +10,7 @@ use Rattle.pim_aiger.specs.declared.fault.AigerFault.TheVariants as aiger
 use Rattle.pim_blif.specs.declared.fault.BlifFault.{BlifFault}
 use Rattle.pim_blif.specs.declared.fault.BlifFault.TheVariants as blif
 use Rattle.pim_aig.specs.Flat.{ands}
-use Rattle.pim_compile.specs.Refusals.{IsAccepted, wide_need}
+use Rattle.pim_compile.specs.Refusals.{wide_need}
 use Rattle.pim_compile.specs.declared.refusal.Refusal.{Refusal as Compiler}
 use Rattle.pim_compile.specs.declared.refusal.Refusal.TheVariants as compiler
 use Rattle.pim_file.specs.declared.fault.FileFault.{FileFault}

@@ -1,5 +1,5 @@
 -- What `run` does: what its output took, and why it refuses.
-use Rattle.std.specs.Prelude.{◌≡◌, ◌⊎◌, ℕ, ◌<◌, ◌≤◌, List, [], Option, Some, Ok, Err, length}
+use Rattle.std.specs.Prelude.{◌≡◌, ◌⊎◌, ℕ, ◌<◌, ◌≤◌, List, [], Option, Ok, Err, length}
 use Rattle.pim_io.specs.Outside.{Told}
 use Rattle.pim_isa.specs.Programs.{ProgramView}
 use Rattle.pim_isa.specs.declared.target.Fill.{Fill}
@@ -29,7 +29,7 @@ abbrev pub OfVectors : Option (List ℕ) → Option (List ℕ) → Option (List 
     → (ProgramView → List ℕ → List ℕ → List ℕ → List ℕ → Type 0) → Type 0
 OfVectors file_before file_now left_before left_now taken_before taken_now P =
     Told file_before file_now (λ text text_rest. Told left_before left_now (λ bytes rest. Told taken_before taken_now
-      (λ before after. OfProgram text text_rest (λ p. P p bytes rest before after))))
+    (λ before after. OfProgram text text_rest (λ p. P p bytes rest before after))))
 
 -- a fault of a program file itself, which is neither a limit nor want of memory
 abbrev pub IsFileFault : FileFault → Type 0

@@ -1,12 +1,12 @@
 -- The vectors of a text, one line after another, and what a program makes of them.
-use Rattle.std.specs.Prelude.{◌≡◌, ◌≢◌, ℕ, zero, suc, ◌+◌, ◌-◌, ◌*◌, ◌%◌, ◌<◌, ◌≤◌, ◌==◌, ◌&&◌, ◌||◌, if◌then◌else◌, Bool, true, false, List, [], ◌∷◌, ◌++◌, length, map, take, drop, Option, Some, None, Result, Ok, Err}
+use Rattle.std.specs.Prelude.{◌≡◌, ℕ, zero, suc, ◌+◌, ◌-◌, ◌%◌, ◌<◌, ◌≤◌, ◌==◌, ◌&&◌, ◌||◌, if◌then◌else◌, Bool, List, [], ◌++◌, length, map, take, drop, Option, Some, None, Result, Ok, Err}
 use Rattle.std.specs.List.{list_all}
 use Rattle.pim_isa.specs.Programs.{ProgramView}
 use Rattle.pim_io.specs.Bits.{bits_of}
 use Rattle.pim_batch.specs.Tables.{table, tile_rows}
 use Rattle.pim_isa.specs.declared.target.Fill.{Fill}
 use Rattle.pim_vectors.specs.Lines.{line_len, lines}
-use Rattle.pim_vectors.specs.Next.{LinesView, next_of}
+use Rattle.pim_vectors.specs.Next.{next_of}
 use Rattle.pim_vectors.specs.declared.fault.LinesFault.{LinesFault}
 use Rattle.pim_vectors.specs.declared.fault.LinesFault.TheVariants as fault
 use Rattle.pim_top.specs.declared.refusal.Limit.TheVariants as limit

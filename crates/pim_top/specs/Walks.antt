@@ -1,7 +1,6 @@
 -- A program on its way over the lines of its vectors.
-use Rattle.std.specs.Prelude.{◌≡◌, ℕ, ◌+◌, ◌*◌, ◌<◌, ◌≤◌, Bool, true, false, List, [], ◌∷◌, ◌++◌, length, map, drop, Option, Some, None, Result, Ok, Err}
+use Rattle.std.specs.Prelude.{◌≡◌, ℕ, ◌+◌, ◌*◌, ◌<◌, ◌≤◌, Bool, true, false, List, [], ◌∷◌, ◌++◌, length, drop, Option, Some, None, Result, Ok, Err}
 use Rattle.pim_io.specs.Bits.{bits_of}
-use Rattle.pim_io.specs.Outside.{Told}
 use Rattle.pim_isa.specs.Programs.{ProgramView}
 use Rattle.pim_isa.specs.declared.target.Fill.{Fill}
 use Rattle.pim_batch.specs.Batches.{BatchView}
@@ -12,7 +11,6 @@ use Rattle.pim_vectors.specs.Next.{LinesView, next_of}
 use Rattle.pim_vectors.specs.declared.fault.LinesFault.{LinesFault}
 use Rattle.pim_vectors.specs.declared.fault.LinesFault.TheVariants as fault
 use Rattle.pim_top.specs.Vectors.{AreVectors, RanWhole, after_lines, vectors_of, verdict_of}
-use Rattle.pim_top.specs.Runs.{VectorsRefuse}
 use Rattle.pim_top.specs.declared.refusal.Limit.TheVariants as limit
 use Rattle.pim_top.specs.declared.refusal.Origin.TheVariants as origin
 use Rattle.pim_top.specs.declared.refusal.Refusal.{Refusal}

@@ -9,8 +9,8 @@ use itoa::Buffer;
 use pim_aiger::AigerFault;
 use pim_blif::BlifFault;
 use pim_file::FileFault;
-use pim_isa::Invalid;
 use pim_io::{Sink, SinkFault, write_all};
+use pim_isa::Invalid;
 use pim_net::{Kind, Names, NetFault};
 
 /// Writes the note of a refusal, as far as the sink takes it.

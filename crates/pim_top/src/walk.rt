@@ -48,14 +48,18 @@ impl<'a> Walk<'a> {
 
     /// Executes the program on every line of the input. The results of a tile of rows are written when its last line was judged,
     /// and the rest at the end of the input. Takes no memory.
-    pub(crate) fn run<S: Source, K: Sink>(&mut self, input: &mut S, output: &mut K) -> Result<(), Refusal>
+    pub(crate) fn run<S: Source, K: Sink>(
+        &mut self,
+        input: &mut S,
+        output: &mut K,
+    ) -> Result<(), Refusal>
         requires start { self.old ≡ start self.old.batch.program self.old.batch.fill }
         ensures done { OnOk result (Told (S.left input.old) (S.left input.new) (λ bytes rest.
             Told (K.taken output.old) (K.taken output.new) (λ before after.
-              RanWhole self.old.batch.program self.old.batch.fill bytes rest before after))) }
+            RanWhole self.old.batch.program self.old.batch.fill bytes rest before after))) }
         ensures refused { IfErr result (λ refusal. Told (S.left input.old) (S.left input.new) (λ bytes rest.
             Told (K.taken output.old) (K.taken output.new) (λ before after.
-              VectorsRefuse self.old.batch.program self.old.batch.fill bytes rest before after refusal))) }
+            VectorsRefuse self.old.batch.program self.old.batch.fill bytes rest before after refusal))) }
         ensures kinds { IfErr result IsOfVectors }
         ensures read_fault { IfErr result (λ refusal. refusal ≡ Refusal.ReadFault Origin.Input
             → Rose (S.faults input.old) (S.faults input.new)) }
@@ -74,11 +78,11 @@ impl<'a> Walk<'a> {
         requires room { length self.old.batch.vectors < tile_rows self.old.batch.program }
         ensures goes { IfOk result (λ more. Told (S.left input.old) (S.left input.new) (λ left rest.
             Told (K.taken output.old) (K.taken output.new) (λ taken now. (bytes before : List ℕ) →
-              IsRunning bytes left before taken self.old → GoesOn more bytes rest before now self.new))) }
+            IsRunning bytes left before taken self.old → GoesOn more bytes rest before now self.new))) }
         ensures refused { IfErr result (λ refusal. Told (S.left input.old) (S.left input.new) (λ left rest.
             Told (K.taken output.old) (K.taken output.new) (λ taken now. (bytes before : List ℕ) →
-              IsRunning bytes left before taken self.old
-              → VectorsRefuse self.old.batch.program self.old.batch.fill bytes rest before now refusal))) }
+            IsRunning bytes left before taken self.old
+            → VectorsRefuse self.old.batch.program self.old.batch.fill bytes rest before now refusal))) }
         ensures room { OnOk result (length self.new.batch.vectors < tile_rows self.new.batch.program) }
         ensures further { IfOk result (λ more. more ≡ true → IsFurther self.old self.new) }
         ensures input_faults { S.faults input.old ≤ S.faults input.new }

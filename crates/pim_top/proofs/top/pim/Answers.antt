@@ -1,6 +1,5 @@
-use Rattle.std.proofs.Common.{◌≡◌, ◌∙◌, ◌⊎◌, inl, inr, ℕ, List, Option, Some, map, subst}
+use Rattle.std.proofs.Common.{◌∙◌, inl, inr, ℕ, List, Option, Some, map, subst}
 use Rattle.std.specs.String.{string_bytes}
-use Rattle.pim_io.specs.Outside.{Rose}
 use Rattle.pim_top.specs.Outcomes.{IsDone, IsExplained}
 use Rattle.pim_top.proofs.CompileEnds.{complete-compile, faulty-compile}
 use Rattle.pim_top.proofs.RunEnds.{complete-run, faulty-run, not-done-run, refused-run}

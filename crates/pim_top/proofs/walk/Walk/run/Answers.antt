@@ -1,4 +1,4 @@
-use Rattle.std.proofs.Common.{◌≡◌, ◌<◌, ◌≤◌, ℕ, List, Option, length, refl, sym, subst, arith}
+use Rattle.std.proofs.Common.{◌<◌, length, refl, sym, subst, arith}
 use Rattle.pim_io.specs.Outside.{Told}
 use Rattle.pim_batch.specs.Tables.{tile_rows}
 use Rattle.pim_top.specs.Walks.{IsRunning, WalkView}

@@ -1,4 +1,4 @@
-use Rattle.std.proofs.Common.{◌≡◌, ℕ, ◌+◌, ◌-◌, ◌<◌, ◌≤◌, List, length, cond}
+use Rattle.std.proofs.Common.{◌≡◌, ◌+◌, ◌-◌, ◌<◌, ◌≤◌, length, cond}
 use Rattle.pim_io.specs.Outside.{Told}
 use Rattle.pim_batch.specs.Tables.{tile_rows}
 use Rattle.pim_vectors.specs.declared.limits.TheConstants.{MAX_LINES}

@@ -1,4 +1,4 @@
-use Rattle.std.proofs.Common.{◌≡◌, ◌∙◌, refl, sym, ap, subst, arith, List, ℕ, ◌+◌, Option, Ok}
+use Rattle.std.proofs.Common.{◌∙◌, refl, sym, ap, subst, List, ℕ, ◌+◌, Option, Ok}
 use Rattle.std.specs.Borrow.{Bor}
 use Rattle.pim_io.specs.Outside.{Told}
 use Rattle.pim_vectors.specs.Tiles.{IsVector}
