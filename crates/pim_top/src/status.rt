@@ -5,7 +5,7 @@
 pub enum Status {
     /// The input was read to its end and everything was written.
     Done,
-    /// The netlist has a fault.
+    /// The netlist, the program or a line of vectors has a fault.
     BadInput,
     /// There is no word, the command is unknown, or its other words are not words of it.
     Usage,
