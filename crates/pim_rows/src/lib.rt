@@ -11,3 +11,5 @@ mod case;
 mod compile;
 #[cfg(test)]
 mod outside;
+#[cfg(test)]
+mod run;
