@@ -4,7 +4,7 @@ use crate::case::AND_PROGRAM;
 use pim_top::Status;
 use std::test::Fail;
 
-/// A cover that says where the output is zero: either of the first two bits and not the last, or neither.
+/// A cover that says where the output is zero: at the first bit without the last, and at the last two.
 const OFF_SET: &[u8] =
     b"pim 1\ntarget magic\ncells 6\ninput 0 a\ninput 1 b\ninput 2 c\noutput 3 f\ncycles 9\ninit 3 4 5\nnot 3 1\nnot 4 2\nnor 5 3 4\ninit 3 4\nnot 3 0\nnor 4 3 2\ninit 3\nnor 3 4 5\nend\n";
 
