@@ -1,9 +1,8 @@
 -- A batch by its fields: `view` is what they are seen as, and `b` the value that clauses speak of.
 use Rattle.std.proofs.Common.{◌≡◌, ◌≢◌, ℕ, zero, suc, ◌+◌, ◌-◌, ◌*◌, ◌<◌, ◌≤◌, Bool, cond, eqb, List, [], ◌∷◌, ◌++◌, Option, length, map, refl, sym, ap, subst, ◌∙◌, arith}
 use Rattle.std.specs.Prelude.{IsTrue}
-use Rattle.std.specs.List.{flat_map, range_with_len}
+use Rattle.std.specs.List.{range_with_len}
 use Rattle.std.proofs.lemmas.Bool.{eq-eqb, ne_eqb, eqb-true}
-use Rattle.std.proofs.lemmas.List.{append-nil}
 use Rattle.std.proofs.lemmas.List.FromFn.{length-map-range_with_len, map-range_with_len_more}
 use Rattle.pim_io.specs.Bits.{bits_of, line_of}
 use Rattle.pim_io.specs.Outside.{TookAll, TookFirst}
@@ -12,9 +11,9 @@ use Rattle.pim_isa.specs.Results.{load}
 use Rattle.pim_lanes.specs.Banks.{BankView, row_of}
 use Rattle.pim_vectors.specs.Tiles.{TileView, IsRow, row_of as tile_row}
 use Rattle.pim_batch.specs.Tables.{result_line, table, tile_rows, tile_words}
-use Rattle.pim_batch.specs.Batches.{BatchView, row_line, row_lines}
+use Rattle.pim_batch.specs.Batches.{BatchView, row_line, row_lines, row_lines_from}
 use Rattle.pim_batch.proofs.Took.{took_both, first_more, then_first}
-use Rattle.pim_batch.proofs.RowLemmas.{lines_same, row_lines-split}
+use Rattle.pim_batch.proofs.RowLemmas.{lines_same, row_lines-add, row_lines-first}
 
 count : (view b : BatchView) (t : TileView) (n : ℕ) → view ≡ b → view.vectors ≡ map (tile_row t) (range_with_len 0 n) → length b.vectors ≡ n
 count view b t n is vectors =
@@ -86,18 +85,16 @@ table_is view b start done vectors results n w is vectors_are within loaded ran 
     ∙ ap (λ (l : List Bool). line_of l ++ 10 ∷ []) (sym (gathered r row)))))
 
 -- ---- what a sink took of the lines
-pub rows_more : (a b c : Option (List ℕ)) (t : TileView) (n : ℕ) → TookAll a b (row_lines t n) → TookAll b c (row_line t n) → TookAll a c (row_lines t (n + 1))
-rows_more a b c t n before now =
+pub rows_more : (a b c : Option (List ℕ)) (t : TileView) (n m : ℕ) → TookAll a b (row_lines t n) → TookAll b c (row_lines_from t n m) → TookAll a c (row_lines t (n + m))
+rows_more a b c t n m before now =
     let P : List ℕ → Type 0 = λ l. TookAll a c l in
-    let next : n + 1 ≡ n + suc zero = omega arith in
-    subst P (sym (ap (row_lines t) next ∙ row_lines-split t n zero ∙ ap (λ (l : List ℕ). row_lines t n ++ l) (append-nil (row_line t n))))
-    (took_both a b c (row_lines t n) (row_line t n) before now)
+    subst P (sym (row_lines-first t n m)) (took_both a b c (row_lines t n) (row_lines_from t n m) before now)
 
-pub rows_first : (a b c : Option (List ℕ)) (t : TileView) (n rows : ℕ) → n < rows → TookAll a b (row_lines t n) → TookFirst b c (row_line t n) → TookFirst a c (row_lines t rows)
-rows_first a b c t n rows small before now =
+pub rows_first : (a b c : Option (List ℕ)) (t : TileView) (n m rows : ℕ) → n + m ≤ rows → TookAll a b (row_lines t n) → TookFirst b c (row_lines_from t n m) → TookFirst a c (row_lines t rows)
+rows_first a b c t n m rows small before now =
     let P : List ℕ → Type 0 = λ l. TookFirst a c l in
-    let d : ℕ = rows - n - 1 in
-    let all : rows ≡ n + suc d = omega arith in
-    let rest : List ℕ = flat_map (row_line t) (range_with_len (n + 1) d) in
-    subst P (sym (ap (row_lines t) all ∙ row_lines-split t n d))
-    (then_first a b c (row_lines t n) (row_line t n ++ rest) before (first_more b c (row_line t n) rest now))
+    let d : ℕ = rows - n - m in
+    let all : rows ≡ n + (m + d) = omega arith in
+    subst P (sym (ap (row_lines t) all ∙ row_lines-first t n (m + d) ∙ ap (λ (l : List ℕ). row_lines t n ++ l) (row_lines-add t n m d)))
+    (then_first a b c (row_lines t n) (row_lines_from t n m ++ row_lines_from t (n + m) d) before
+    (first_more b c (row_lines_from t n m) (row_lines_from t (n + m) d) now))

@@ -1,9 +1,12 @@
 -- Rows of a bank and of a tile, and the lines of rows.
-use Rattle.std.proofs.Common.{◌≡◌, ℕ, zero, suc, ◌+◌, ◌<◌, ◌≤◌, Bool, false, List, [], ◌∷◌, ◌++◌, length, drop, set, get_or, map, refl, sym, ap, subst, ◌∙◌, arith, below_more, get_or-set_same, get_or-set_other}
+use borrow.Rule.Slice.PartMut.{put_mid}
+use Rattle.std.proofs.Common.{◌≡◌, ℕ, zero, suc, ◌+◌, ◌-◌, ◌*◌, ◌<◌, ◌≤◌, Bool, false, List, [], ◌∷◌, ◌++◌, length, length-append, length-take-le, length-drop, take, drop, set, get_or, map, refl, sym, ap, subst, ◌∙◌, arith, below_more, get_or-set_same, get_or-set_other}
 use Rattle.std.specs.Prelude.{All}
 use Rattle.std.specs.List.{flat_map, range_with_len}
+use Rattle.std.proofs.Math.Nat.{suc-mul}
+use Rattle.std.proofs.lemmas.Slice.{take-put_mid}
 use Rattle.std.proofs.lemmas.Grind.{flat_map-append}
-use Rattle.std.proofs.lemmas.List.{length-map, ext_get_or, get_or-map}
+use Rattle.std.proofs.lemmas.List.{append-nil, length-map, ext_get_or, get_or-map}
 use Rattle.std.proofs.lemmas.List.FromFn.{length-map-range_with_len}
 use Rattle.pim_io.specs.Lanes.{lane}
 use Rattle.pim_isa.specs.declared.port.Port.{Port}
@@ -12,7 +15,7 @@ use Rattle.pim_isa.specs.Results.{with_inputs}
 use Rattle.pim_isa.specs.Sound.{cells_of}
 use Rattle.pim_lanes.specs.Banks.{BankView, row_of, SameFrame}
 use Rattle.pim_vectors.specs.Tiles.{TileView, column_of as tile_column, row_of as tile_row}
-use Rattle.pim_batch.specs.Batches.{row_line, row_lines}
+use Rattle.pim_batch.specs.Batches.{row_line, row_lines, row_lines_from}
 
 -- ---- rows
 pub length-tile_row : (t : TileView) (r : ℕ) → length (tile_row t r) ≡ t.columns
@@ -119,10 +122,60 @@ range-add a (suc n) m =
     let same : a + suc n ≡ a + 1 + n = omega arith in
     rw (start, same) (ap (λ (l : List ℕ). a ∷ l) (range-add (a + 1) n m))
 
--- the lines before a row, the row's line, and those behind it
-pub row_lines-split : (t : TileView) (n d : ℕ) → row_lines t (n + suc d) ≡ row_lines t n ++ (row_line t n ++ flat_map (row_line t) (range_with_len (n + 1) d))
-row_lines-split t n d =
+-- the lines of some rows, and those of the rows behind them
+pub row_lines-add : (t : TileView) (a n m : ℕ) → row_lines_from t a (n + m) ≡ row_lines_from t a n ++ row_lines_from t (a + n) m
+row_lines-add t a n m =
+    ap (flat_map (row_line t)) (range-add a n m)
+    ∙ flat_map-append (row_line t) (range_with_len a n) (range_with_len (a + n) m)
+
+pub row_lines-first : (t : TileView) (n m : ℕ) → row_lines t (n + m) ≡ row_lines t n ++ row_lines_from t n m
+row_lines-first t n m =
     let same : 0 + n ≡ n = omega arith in
-    ap (flat_map (row_line t)) (range-add 0 n (suc d))
-    ∙ flat_map-append (row_line t) (range_with_len 0 n) (range_with_len (0 + n) (suc d))
-    ∙ ap (λ (k : ℕ). row_lines t n ++ flat_map (row_line t) (range_with_len k (suc d))) same
+    row_lines-add t 0 n m ∙ ap (λ (a : ℕ). row_lines t n ++ row_lines_from t a m) same
+
+-- one more row's line
+pub row_lines-more : (t : TileView) (a n : ℕ) → row_lines_from t a (n + 1) ≡ row_lines_from t a n ++ row_line t (a + n)
+row_lines-more t a n =
+    row_lines-add t a n 1 ∙ ap (λ (l : List ℕ). row_lines_from t a n ++ l) (append-nil (row_line t (a + n)))
+
+-- ---- lines in a list
+-- the room that is left for rows is that for the next one and for those behind it
+pub room_left : (at w count k : ℕ) → k < count → at + (count - k) * w ≡ at + w + (count - (k + 1)) * w
+room_left at w count k small =
+    let d : ℕ = count - (k + 1) in
+    let next : count - k ≡ suc d = omega arith in
+    rw next (omega (arith, suc-mul d w))
+
+put_is : (at w : ℕ) (old new : List ℕ) → put_mid at (at + w - at) old new ≡ take at old ++ (new ++ drop w (drop at old))
+put_is at w old new =
+    let k : at + w - at ≡ w = omega arith in
+    rw k refl
+
+-- a line that is put between others leaves the list as long
+pub length_put : (at w : ℕ) (old new : List ℕ) → at + w ≤ length old → length new ≡ w → length (put_mid at (at + w - at) old new) ≡ length old
+length_put at w old new room long =
+    ap length (put_is at w old new)
+    ∙ omega (
+      arith,
+      length-append (take at old) (new ++ drop w (drop at old)),
+      length-append new (drop w (drop at old)),
+      length-take-le at old (omega arith),
+      length-drop w (drop at old),
+      length-drop at old,
+    )
+
+-- the part of a list that is lent has its length
+pub length_part : (at w : ℕ) (l : List ℕ) → at + w ≤ length l → length (take (at + w - at) (drop at l)) ≡ w
+length_part at w l room =
+    let k : at + w - at ≡ w = omega arith in
+    ap (λ (n : ℕ). length (take n (drop at l))) k ∙ length-take-le w (drop at l) (omega (arith, length-drop at l))
+
+-- the line of the next row stands behind those of the rows before it
+pub lines_put : (t : TileView) (from k at w : ℕ) (old new : List ℕ) → at + w ≤ length old → length new ≡ w →
+    take at old ≡ row_lines_from t from k → new ≡ row_line t (from + k) →
+    take (at + w) (put_mid at (at + w - at) old new) ≡ row_lines_from t from (k + 1)
+lines_put t from k at w old new room long before line =
+    take-put_mid at (at + w - at) old new (at + w) (omega arith) (omega arith)
+    ∙ ap (λ (l : List ℕ). l ++ new) before
+    ∙ ap (λ (l : List ℕ). row_lines_from t from k ++ l) line
+    ∙ sym (row_lines-more t from k)

@@ -1,5 +1,5 @@
 -- Vectors that are executed together.
-use Rattle.std.specs.Prelude.{◌≡◌, ℕ, ◌+◌, ◌*◌, ◌≤◌, ◌++◌, ◌∷◌, [], Bool, List, length, take}
+use Rattle.std.specs.Prelude.{◌≡◌, ℕ, ◌+◌, ◌*◌, ◌≤◌, ◌++◌, ◌∷◌, [], Bool, List, length}
 use Rattle.pim_isa.specs.Programs.{ProgramView}
 use Rattle.pim_isa.specs.declared.target.Fill.{Fill}
 use Rattle.pim_lanes.specs.Banks.{BankView}
@@ -14,26 +14,25 @@ pub record BatchView : Type 0 where
   pub fill : Fill
   pub vectors : List (List Bool)
 
--- a line of so many characters has room in the list, and a newline stands behind it
-pub record IsRoom (columns : ℕ) (line : List ℕ) : Type 0 where
-  pub long : length line ≡ columns + 1
-  pub ended : line ≡ take columns line ++ 10 ∷ []
-
--- what every batch keeps: the sizes that its program asks for, room for a line and for the rows
-pub record IsBatch (p : ProgramView) (bank : BankView) (vectors results : TileView) (line : List ℕ) (rows : ℕ) : Type 0 where
+-- what every batch keeps: the sizes that its program asks for, room for a line with its newline and for the rows
+pub record IsBatch (p : ProgramView) (bank : BankView) (vectors results : TileView) (chunk : List ℕ) (rows : ℕ) : Type 0 where
   pub cells : bank.cells ≡ p.cells
   pub words : bank.words ≡ tile_words p
   pub vector_columns : vectors.columns ≡ length p.inputs
   pub vector_words : vectors.words ≡ tile_words p
   pub result_columns : results.columns ≡ length p.outputs
   pub result_words : results.words ≡ tile_words p
-  pub line_room : IsRoom (length p.outputs) line
+  pub line_room : length p.outputs + 1 ≤ length chunk
   pub row_room : rows ≤ 64 * tile_words p
 
 -- a row of a tile as a line
 abbrev pub row_line : TileView → ℕ → List ℕ
 row_line t r = line_of (row_of t r) ++ 10 ∷ []
 
+-- so many rows of a tile from one of them on, a line for each
+abbrev pub row_lines_from : TileView → ℕ → ℕ → List ℕ
+row_lines_from t from count = flat_map (row_line t) (range_with_len from count)
+
 -- the first rows of a tile, a line for each
 abbrev pub row_lines : TileView → ℕ → List ℕ
-row_lines t rows = flat_map (row_line t) (range_with_len 0 rows)
+row_lines t rows = row_lines_from t 0 rows

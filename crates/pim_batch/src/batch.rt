@@ -12,8 +12,11 @@ use pim_vectors::Tile;
 use std::alloc::Global;
 use std::marker::Model;
 
+/// How many bytes are written at once, unless a single line is longer.
+const CHUNK: usize = 16_384;
+
 /// The vectors that were packed and not executed yet, with all that executing them takes: a bank, a tile of vectors, a tile
-/// of results and one line of them.
+/// of results and room for some of their lines.
 #[derive(Debug, Drop)]
 pub struct Batch<'a> {
     program: &'a Program,
@@ -21,7 +24,7 @@ pub struct Batch<'a> {
     bank: Bank,
     vectors: Tile,
     results: Tile,
-    line: Vec<u8>,
+    chunk: Vec<u8>,
     rows: u32,
 }
 
@@ -39,12 +42,13 @@ impl<'a> Model for Batch<'a> {
       vectors = map (row_of b.vectors) (range_with_len 0 b.rows);
     } };
 
-    ghost invariant = { λ b. IsBatch b.program.now b.bank b.vectors b.results b.line.items b.rows };
+    ghost invariant = { λ b. IsBatch b.program.now b.bank b.vectors b.results b.chunk.items b.rows };
 }
 
 impl<'a> Batch<'a> {
     /// A batch of no vectors. Takes all the memory that executing vectors takes: a column of words for each cell, input and output,
-    /// of 64 words, or of 4 where the program has more than 65,536 cells or outputs.
+    /// of 64 words, or of 4 where the program has more than 65,536 cells or outputs, and 16 KiB for lines, or one line where that is
+    /// longer.
     pub fn new(alloc: Global, program: &'a Program, fill: Fill) -> Result<Batch<'a>, NoMemory>
         ensures { IfOk result (λ batch. batch ≡ record { program = program.now; fill = fill; vectors = [] }) }
     {
@@ -57,7 +61,7 @@ impl<'a> Batch<'a> {
             bank: Bank::new(alloc, program.cells(), words)?,
             vectors: Tile::new(alloc, inputs, words)?,
             results: Tile::new(alloc, outputs, words)?,
-            line: vec![in alloc; b'\n'; outputs as usize + 1]?,
+            chunk: vec![in alloc; 0; CHUNK.max(outputs as usize + 1)]?,
             rows: 0,
         })
     }
@@ -83,7 +87,8 @@ impl<'a> Batch<'a> {
     /// Executes the vectors that are packed and writes a line of the characters `0` and `1` for each, in order; none is packed then.
     /// After a fault the vectors are still packed, and a second call would write those lines again that the sink took: drop the
     /// batch. The program runs once, in all rows of the tile: a kernel or two for each instruction and one for each cell that an Init
-    /// names. Beside that the cost is linear in the cells and outputs and in the characters that are written. Takes no memory.
+    /// names. Beside that the cost is linear in the cells and outputs and in the characters that are written: as many whole lines
+    /// at once as 16 KiB hold, or one. Takes no memory.
     pub fn flush<K: Sink>(&mut self, output: &mut K) -> Result<(), SinkFault>
         ensures whole { OnOk result (TookAll (K.taken output.old) (K.taken output.new)
             (table self.old.program self.old.fill self.old.vectors)) }
@@ -97,7 +102,8 @@ impl<'a> Batch<'a> {
         rows::load_vectors(&mut self.bank, self.program, self.fill, &self.vectors);
         self.bank.run(self.program);
         rows::gather_results(&mut self.results, self.program, &self.bank);
-        lines::write_results(&self.results, self.rows, &mut self.line, output)?;
+        let width = self.program.outputs().len() + 1;
+        lines::write_results(&self.results, self.rows, width, &mut self.chunk, output)?;
         self.rows = 0;
         Ok(())
     }
