@@ -4,4 +4,5 @@ pub mod ColumnLemmas
 pub mod StepLemmas
 pub mod BankLemmas
 pub mod LendLemmas
+pub mod TripleLemmas
 mod Examples

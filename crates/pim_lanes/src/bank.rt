@@ -12,10 +12,12 @@ use std::marker::Model;
 
 /// Rows of cells side by side: a column of words for each cell, with a lane of each column for each row. One list has all
 /// columns. A column of zeros and a column of ones, which are never written, stand first in it; they are told as the two columns
-/// behind those of the cells.
+/// behind those of the cells. Two buffers of their own take copies of columns that are read beside one that is written.
 #[derive(Debug, Drop)]
 pub struct Bank {
     buffer: Vec<u64>,
+    first: [u64; 64],
+    second: [u64; 64],
     cells: u32,
     words: usize,
 }
@@ -50,6 +52,8 @@ impl Bank {
         columns::fill_column(&mut buffer, words, 1, u64::MAX);
         Ok(Bank {
             buffer,
+            first: [0; 64],
+            second: [0; 64],
             cells,
             words,
         })
@@ -88,6 +92,44 @@ impl Bank {
         let start = (c as usize + 2) * self.words;
         let end = start + self.words;
         self.buffer.slice_mut(start..end)
+    }
+
+    /// The words of the column of cell t, for writing, and those of two other columns as they are now, in copies. A column for
+    /// reading is a cell's, or the column of zeros or of ones behind the cells. Linear in the words of a column.
+    pub fn triple(&mut self, t: u32, a: u32, b: u32) -> (&mut [u64], &[u64], &[u64])
+        requires t_within { t < self.old.cells }
+        requires a_within { a < self.old.cells + 2 }
+        requires b_within { b < self.old.cells + 2 }
+        requires a_apart { a ≢ t }
+        requires b_apart { b ≢ t }
+        ensures* lends { sem 𝓛 (LendsColumn self.entry t result.0) }
+        ensures target { result.0.now ≡ column_of self.old t }
+        ensures first { result.1.now ≡ column_of self.old a }
+        ensures second { result.2.now ≡ column_of self.old b }
+        ensures target_long { length result.0.now ≡ self.old.words }
+        ensures first_long { length result.1.now ≡ self.old.words }
+        ensures second_long { length result.2.now ≡ self.old.words }
+    {
+        let words = self.words;
+        columns::copy_column(
+            &mut self.first,
+            &self.buffer,
+            words,
+            place_in(self.cells, a),
+        );
+        columns::copy_column(
+            &mut self.second,
+            &self.buffer,
+            words,
+            place_in(self.cells, b),
+        );
+        let start = (t as usize + 2) * words;
+        let end = start + words;
+        (
+            self.buffer.slice_mut(start..end),
+            &self.first[..words],
+            &self.second[..words],
+        )
     }
 
     /// Writes the words of a cell's column.

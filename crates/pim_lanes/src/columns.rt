@@ -1,4 +1,4 @@
-ghost use Rattle.std.specs.Prelude.{◌≡◌, ◌≢◌, ℕ, ◌+◌, ◌-◌, ◌*◌, ◌<◌, ◌≤◌, ◌&&◌, ◌||◌, ◌++◌, not, true, List, length, drop, replicate};
+ghost use Rattle.std.specs.Prelude.{◌≡◌, ◌≢◌, ℕ, ◌+◌, ◌-◌, ◌*◌, ◌<◌, ◌≤◌, ◌&&◌, ◌||◌, ◌++◌, not, true, List, length, take, drop, replicate};
 ghost use Rattle.pim_isa.specs.Steps.{majority};
 ghost use Rattle.pim_io.specs.Lanes.{lane, column_in};
 ghost use Rattle.pim_lanes.specs.Columns.{Stored};
@@ -22,6 +22,16 @@ pub(crate) fn put_column(buffer: &mut [u64], words: usize, t: usize, new: &[u64]
 {
     let start = t * words;
     buffer[start..start + words].copy_from_slice(new);
+}
+
+/// Copies the words of column c to the front of a buffer.
+pub(crate) fn copy_column(copy: &mut [u64; 64], buffer: &[u64], words: usize, c: usize)
+    requires within { c * words + words ≤ length buffer.now }
+    requires short { words ≤ 64 }
+    ensures { take words copy.new ≡ column_in words buffer.now c }
+{
+    let start = c * words;
+    copy[..words].copy_from_slice(&buffer[start..start + words]);
 }
 
 /// Writes a word all over one column.

@@ -93,6 +93,20 @@ fn a_program_runs_in_every_row(rt: HostRuntime) -> Result<(), Fail> {
 }
 
 #[test]
+fn a_column_is_written_beside_two_that_are_read(rt: HostRuntime) -> Result<(), Fail> {
+    let mut bank = Bank::new(rt.alloc(), 3, 1)?;
+    bank.put_column(0, &[6]);
+    bank.put_column(2, &[5]);
+    let (target, first, second) = bank.triple(2, 0, 4);
+    assert_eq!(rt; first, [6].as_slice());
+    assert_eq!(rt; second, [u64::MAX].as_slice());
+    nor1_into(target, first);
+    assert_eq!(rt; bank.column(0), [6].as_slice());
+    assert_eq!(rt; bank.column(2), [1].as_slice());
+    Ok(())
+}
+
+#[test]
 fn instructions_take_each_kind_of_operand(rt: HostRuntime) -> Result<(), Fail> {
     let mut bank = Bank::new(rt.alloc(), 5, 1)?;
     bank.column_mut(0).copy_from_slice(&[1]);
