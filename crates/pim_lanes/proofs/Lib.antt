@@ -5,4 +5,5 @@ pub mod StepLemmas
 pub mod BankLemmas
 pub mod LendLemmas
 pub mod TripleLemmas
+pub mod PartLends
 mod Examples

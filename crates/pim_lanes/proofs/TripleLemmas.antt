@@ -1,10 +1,10 @@
--- The columns that are read beside one that is lent for writing.
+-- Two columns that are read beside one that is lent for writing.
 use Rattle.std.proofs.Common.{◌≡◌, ℕ, ◌+◌, ◌-◌, ◌*◌, ◌<◌, ◌≤◌, inl, inr, List, ◌++◌, length, take, drop, sym, ap, subst, ◌∙◌, arith}
 use Rattle.std.proofs.lemmas.Bool.{cases_lt}
-use Rattle.std.proofs.lemmas.List.{take-append-le, take_all}
+use Rattle.std.proofs.lemmas.List.{length-drop, length-take-le, drop-drop, take-append-drop}
 use Rattle.pim_io.specs.Lanes.{column_in}
 use Rattle.pim_lanes.specs.Banks.{BankView, column_of, IsBuffer}
-use Rattle.pim_lanes.proofs.ColumnLemmas.{low_within, length-column_in}
+use Rattle.pim_lanes.proofs.ColumnLemmas.{low_within}
 use Rattle.pim_lanes.proofs.BankLemmas.{cell_column, constant_column}
 
 -- the column at the place of column c
@@ -30,11 +30,26 @@ place_below cells c place within cell constant =
       | inr high ↦ let e : place ≡ c - cells = constant high in omega arith
     ]
 
--- a column is as long as any
-pub length-placed : (cells words place : ℕ) (items : List ℕ) → IsBuffer cells words items → place < cells + 2 → length (column_in words items place) ≡ words
-length-placed cells words place items whole below =
-    length-column_in words items place (omega (arith, whole.whole, low_within words place (cells + 2) below))
+-- the three parts of a list make it again
+pub in_parts : (start w : ℕ) (items below part above : List ℕ) → below ≡ take start items → part ≡ take (start + w - start) (drop start items) →
+    above ≡ drop (start + w) items → below ++ (part ++ above) ≡ items
+in_parts start w items below part above low middle high =
+    let n : start + w - start ≡ w = omega arith in
+    ap (λ (l : List ℕ). l ++ (part ++ above)) low
+    ∙ ap (λ (l : List ℕ). take start items ++ (l ++ above)) (middle ∙ ap (λ (k : ℕ). take k (drop start items)) n)
+    ∙ ap (λ (l : List ℕ). take start items ++ (take w (drop start items) ++ l)) (high ∙ sym (drop-drop w start items))
+    ∙ ap (λ (l : List ℕ). take start items ++ l) (take-append-drop w (drop start items))
+    ∙ take-append-drop start items
 
--- what was copied in front
-pub copied : (n : ℕ) (new rest : List ℕ) → length new ≡ n → take n (new ++ rest) ≡ new
-copied n new rest long = take-append-le n new rest (omega (arith, long)) ∙ take_all n new (omega (arith, long))
+-- a column beside one that is taken out begins among the rest
+pub place_beside : (cells words t place : ℕ) (items below above : List ℕ) → IsBuffer cells words items → t < cells → place < cells + 2 →
+    below ≡ take ((t + 2) * words) items → above ≡ drop ((t + 2) * words + words) items → place * words ≤ length below + length above
+place_beside cells words t place items below above whole small inside low high =
+    omega (
+      arith,
+      whole.whole,
+      low_within words place (cells + 2) inside,
+      low_within words (t + 2) (cells + 2) (omega arith),
+      ap length low ∙ length-take-le ((t + 2) * words) items (omega (arith, whole.whole, low_within words (t + 2) (cells + 2) (omega arith))),
+      ap length high ∙ length-drop ((t + 2) * words + words) items,
+    )

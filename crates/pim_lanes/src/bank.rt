@@ -5,6 +5,7 @@ ghost use Rattle.pim_io.specs.Lanes.{lane};
 ghost use Rattle.pim_lanes.specs.Banks.{column_of, column_at, with_column, row_of, IsRow, SameFrame, FitsCells, place_of, fill_word};
 
 use crate::columns;
+use crate::parts::part_mut;
 use pim_io::NoMemory;
 use pim_isa::{Fill, Ins, Instr, MAX_CELLS, Operand, Program};
 use std::alloc::Global;
@@ -12,12 +13,10 @@ use std::marker::Model;
 
 /// Rows of cells side by side: a column of words for each cell, with a lane of each column for each row. One list has all
 /// columns. A column of zeros and a column of ones, which are never written, stand first in it; they are told as the two columns
-/// behind those of the cells. Two buffers of their own take copies of columns that are read beside one that is written.
+/// behind those of the cells.
 #[derive(Debug, Drop)]
 pub struct Bank {
     buffer: Vec<u64>,
-    first: [u64; 64],
-    second: [u64; 64],
     cells: u32,
     words: usize,
 }
@@ -52,8 +51,6 @@ impl Bank {
         columns::fill_column(&mut buffer, words, 1, u64::MAX);
         Ok(Bank {
             buffer,
-            first: [0; 64],
-            second: [0; 64],
             cells,
             words,
         })
@@ -94,8 +91,8 @@ impl Bank {
         self.buffer.slice_mut(start..end)
     }
 
-    /// The words of the column of cell t, for writing, and those of two other columns as they are now, in copies. A column for
-    /// reading is a cell's, or the column of zeros or of ones behind the cells. Linear in the words of a column.
+    /// The words of the column of cell t, for writing, and those of two other columns, for reading, all in the bank's one list. A
+    /// column for reading is a cell's, or the column of zeros or of ones behind the cells; the two may be one.
     pub fn triple(&mut self, t: u32, a: u32, b: u32) -> (&mut [u64], &[u64], &[u64])
         requires t_within { t < self.old.cells }
         requires a_within { a < self.old.cells + 2 }
@@ -109,26 +106,21 @@ impl Bank {
         ensures target_long { length result.0.now ≡ self.old.words }
         ensures first_long { length result.1.now ≡ self.old.words }
         ensures second_long { length result.2.now ≡ self.old.words }
+
+        // What the rows are then.
+        ensures rows { (column : List ℕ) → length column ≡ self.old.words → (r : ℕ) → IsRow self.old r
+            → row_of (with_column self.old t column) r ≡ slice_set (row_of self.old r) t (lane column r) }
     {
         let words = self.words;
-        columns::copy_column(
-            &mut self.first,
-            &self.buffer,
-            words,
-            place_in(self.cells, a),
-        );
-        columns::copy_column(
-            &mut self.second,
-            &self.buffer,
-            words,
-            place_in(self.cells, b),
-        );
-        let start = (t as usize + 2) * words;
-        let end = start + words;
+        let place = t as usize + 2;
+        let first = place_in(self.cells, a);
+        let second = place_in(self.cells, b);
+        let start = place * words;
+        let (target, below, above) = part_mut(&mut self.buffer, start, start + words);
         (
-            self.buffer.slice_mut(start..end),
-            &self.first[..words],
-            &self.second[..words],
+            target,
+            columns::column_beside(below, above, words, place, first),
+            columns::column_beside(below, above, words, place, second),
         )
     }
 

@@ -24,16 +24,6 @@ pub(crate) fn put_column(buffer: &mut [u64], words: usize, t: usize, new: &[u64]
     buffer[start..start + words].copy_from_slice(new);
 }
 
-/// Copies the words of column c to the front of a buffer.
-pub(crate) fn copy_column(copy: &mut [u64; 64], buffer: &[u64], words: usize, c: usize)
-    requires within { c * words + words ≤ length buffer.now }
-    requires short { words ≤ 64 }
-    ensures { take words copy.new ≡ column_in words buffer.now c }
-{
-    let start = c * words;
-    copy[..words].copy_from_slice(&buffer[start..start + words]);
-}
-
 /// Writes a word all over one column.
 pub(crate) fn fill_column(buffer: &mut [u64], words: usize, t: usize, word: u64)
     requires { t * words + words ≤ length buffer.old }
@@ -109,7 +99,7 @@ pub(crate) fn rm3_column(buffer: &mut [u64], words: usize, z: usize, p: usize, q
 }
 
 /// Column c of columns of which column t lies between those below it and those above it.
-fn column_beside<'a>(
+pub(crate) fn column_beside<'a>(
     below: &'a [u64],
     above: &'a [u64],
     words: usize,

@@ -4,6 +4,7 @@
 mod bank;
 mod columns;
 mod kernels;
+mod parts;
 #[cfg(test)]
 mod tests;
 
