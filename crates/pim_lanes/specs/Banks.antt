@@ -9,8 +9,7 @@ use Rattle.pim_isa.specs.declared.instr.Operand.TheVariants as operand
 use Rattle.pim_isa.specs.declared.instr.Instr.{Instr}
 use Rattle.pim_isa.specs.Touches.{names}
 use Rattle.pim_isa.specs.Validity.{reads_target}
-use Rattle.pim_io.specs.Lanes.{lane, column_in}
-use Rattle.pim_lanes.specs.Columns.{with_words}
+use Rattle.pim_io.specs.Lanes.{lane, column_in, with_words}
 
 -- the number of cells, the words of a column, and the words of the cells' columns, one column after another
 pub record BankView : Type 0 where

@@ -1,5 +1,5 @@
 -- Columns of words that stand one after another in one list.
-use Rattle.std.specs.Prelude.{◌≡◌, ◌≢◌, ℕ, ◌*◌, ◌<◌, Bool, List, ◌++◌, length, take, drop}
+use Rattle.std.specs.Prelude.{◌≡◌, ◌≢◌, ℕ, ◌*◌, ◌<◌, Bool, List, length}
 use Rattle.pim_io.specs.Lanes.{lane, column_in}
 
 -- lane r of column t is v r now, and all other columns are as they were
@@ -7,8 +7,3 @@ pub record Stored (words t : ℕ) (v : ℕ → Bool) (old new : List ℕ) : Type
   pub same : length new ≡ length old
   pub target : (r : ℕ) → r < 64 * words → lane (column_in words new t) r ≡ v r
   pub others : (c : ℕ) → c ≢ t → column_in words new c ≡ column_in words old c
-
--- the list with these words from a place on, where it has them; it stays as long
-unfoldable pub with_words : List ℕ → ℕ → List ℕ → List ℕ
-with_words buffer start words =
-    take (length buffer) (take start buffer ++ (words ++ drop (length words) (drop start buffer)))

@@ -6,9 +6,9 @@ use Rattle.std.proofs.lemmas.Bool.{cases_eq, cases_lt, eq-eqb, ne_eqb, lt-ltb}
 use Rattle.std.proofs.lemmas.List.{get_or-set_same, get_or-set_other, get_or-take, get_or-drop, get_or-map, get_or-replicate, get_or-append-add, get_or_append_left, length-map, length-replicate, length-append, length-drop, length-set, length-take-le, take-append-le, take_all, ext_get_or}
 use Rattle.std.proofs.lemmas.List.FromFn.{length-map-range_with_len, get_or-map-range_with_len}
 use Rattle.std.proofs.lemmas.Nat.Bits.{shr_and_one, bit_at_set_same, bit_at_set_other, bit_at_clear_same, bit_at_clear_other, bit_at-zero}
-use Rattle.pim_io.specs.Lanes.{is_set, lane, column_in}
+use Rattle.pim_io.specs.Lanes.{is_set, lane, column_in, with_words}
 use Rattle.pim_io.specs.Bits.{bits_of, digit_of, line_of}
-use Rattle.pim_vectors.specs.Tiles.{TileView, lane_at, column_of, with_words, with_column, row_of, IsRow, IsTile}
+use Rattle.pim_vectors.specs.Tiles.{TileView, lane_at, column_of, with_column, row_of, IsRow, IsTile}
 
 -- ---- one bit of a word
 pub is_set-shifted : (n i : ℕ) → eqb (bit_and (n / 2 ^ i) 1) 1 ≡ is_set n i

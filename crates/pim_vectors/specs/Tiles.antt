@@ -1,7 +1,7 @@
 -- Vectors as rows of a tile: a column of words for each place of a vector, with a lane for each row.
-use Rattle.std.specs.Prelude.{◌≡◌, ℕ, ◌+◌, ◌*◌, ◌/◌, ◌%◌, ◌<◌, ◌≤◌, ◌⊎◌, Bool, List, ◌++◌, length, take, drop, map, slice_index, All}
+use Rattle.std.specs.Prelude.{◌≡◌, ℕ, ◌+◌, ◌*◌, ◌/◌, ◌%◌, ◌<◌, ◌≤◌, ◌⊎◌, Bool, List, length, map, slice_index, All}
 use Rattle.std.specs.List.{range_with_len}
-use Rattle.pim_io.specs.Lanes.{is_set, lane, column_in}
+use Rattle.pim_io.specs.Lanes.{is_set, lane, column_in, with_words}
 
 -- lane r of column c in columns of so many words that stand one after another
 unfoldable pub lane_at : ℕ → List ℕ → ℕ → ℕ → Bool
@@ -20,11 +20,6 @@ column_of t c = column_in t.words t.buffer c
 -- row r of a tile: lane r of each column
 unfoldable pub row_of : TileView → ℕ → List Bool
 row_of t r = map (λ c. lane (column_of t c) r) (range_with_len 0 t.columns)
-
--- the list with these words from a place on, where it has them; it stays as long
-unfoldable pub with_words : List ℕ → ℕ → List ℕ → List ℕ
-with_words buffer start words =
-    take (length buffer) (take start buffer ++ (words ++ drop (length words) (drop start buffer)))
 
 -- the tile with these words in column k
 abbrev pub with_column : TileView → ℕ → List ℕ → TileView
