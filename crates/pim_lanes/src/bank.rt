@@ -124,7 +124,7 @@ impl Bank {
         )
     }
 
-    /// Writes the words of a cell's column.
+    /// Writes the words of a cell's column. Linear in the words.
     pub fn put_column(&mut self, c: u32, words: &[u64])
         requires cell { c < self.old.cells }
         requires long { length words.now ≡ self.old.words }
@@ -148,7 +148,7 @@ impl Bank {
         }
     }
 
-    /// Executes the instructions of a program in every row, as the machine does in one row.
+    /// Executes the instructions of a program in every row, as the machine does in one row. The cost is that of `apply` for each.
     pub fn run(&mut self, program: &Program)
         requires { program.now.cells ≤ self.old.cells }
         ensures rows { (r : ℕ) → IsRow self.old r → row_of self.new r ≡ exec program.now.instrs (row_of self.old r) }

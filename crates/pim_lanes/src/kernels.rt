@@ -59,9 +59,9 @@ fn nor1_vectors(t: &mut [u64], a: &[u64]) -> usize
 
 /// Does one vector of words.
 fn nor1_vector(t: &mut [u64], a: &[u64], at: usize)
-    requires within { at + 4 ≤ length t.old }
+    requires within { at + WIDTH ≤ length t.old }
     requires same { length a.now ≡ length t.old }
-    ensures { Ruled nor1_word at (at + 4) t.old a.now a.now t.new }
+    ensures { Ruled nor1_word at (at + WIDTH) t.old a.now a.now t.new }
 {
     let one = u64x4::from_slice(&a[at..]);
     (u64x4::from_slice(&t[at..]) & !one).copy_to_slice(&mut t[at..]);
@@ -94,10 +94,10 @@ fn nor2_vectors(t: &mut [u64], a: &[u64], b: &[u64]) -> usize
 
 /// Does one vector of words.
 fn nor2_vector(t: &mut [u64], a: &[u64], b: &[u64], at: usize)
-    requires within { at + 4 ≤ length t.old }
+    requires within { at + WIDTH ≤ length t.old }
     requires same_a { length a.now ≡ length t.old }
     requires same_b { length b.now ≡ length t.old }
-    ensures { Ruled nor2_word at (at + 4) t.old a.now b.now t.new }
+    ensures { Ruled nor2_word at (at + WIDTH) t.old a.now b.now t.new }
 {
     let one = u64x4::from_slice(&a[at..]) | u64x4::from_slice(&b[at..]);
     (u64x4::from_slice(&t[at..]) & !one).copy_to_slice(&mut t[at..]);
@@ -131,10 +131,10 @@ fn rm3_vectors(z: &mut [u64], p: &[u64], q: &[u64]) -> usize
 
 /// Does one vector of words.
 fn rm3_vector(z: &mut [u64], p: &[u64], q: &[u64], at: usize)
-    requires within { at + 4 ≤ length z.old }
+    requires within { at + WIDTH ≤ length z.old }
     requires same_p { length p.now ≡ length z.old }
     requires same_q { length q.now ≡ length z.old }
-    ensures { Ruled rm3_word at (at + 4) z.old p.now q.now z.new }
+    ensures { Ruled rm3_word at (at + WIDTH) z.old p.now q.now z.new }
 {
     let a = u64x4::from_slice(&p[at..]);
     let b = !u64x4::from_slice(&q[at..]);
