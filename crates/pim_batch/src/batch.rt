@@ -13,7 +13,7 @@ use std::alloc::Global;
 use std::marker::Model;
 
 /// How many bytes are written at once, unless a single line is longer.
-const CHUNK: usize = 16_384;
+const CHUNK: usize = 65_536;
 
 /// The vectors that were packed and not executed yet, with all that executing them takes: a bank, a tile of vectors, a tile
 /// of results and room for some of their lines.
@@ -47,7 +47,7 @@ impl<'a> Model for Batch<'a> {
 
 impl<'a> Batch<'a> {
     /// A batch of no vectors. Takes all the memory that executing vectors takes: a column of words for each cell, input and output,
-    /// of 64 words, or of 4 where the program has more than 65,536 cells or outputs, and 16 KiB for lines, or one line where that is
+    /// of 64 words, or of 4 where the program has more than 65,536 cells or outputs, and 64 KiB for lines, or one line where that is
     /// longer.
     pub fn new(alloc: Global, program: &'a Program, fill: Fill) -> Result<Batch<'a>, NoMemory>
         ensures { IfOk result (λ batch. batch ≡ record { program = program.now; fill = fill; vectors = [] }) }
@@ -88,7 +88,7 @@ impl<'a> Batch<'a> {
     /// After a fault the vectors are still packed, and a second call would write those lines again that the sink took: drop the
     /// batch. The program runs once, in all rows of the tile: a kernel or two for each instruction and one for each cell that an Init
     /// names. Beside that the cost is linear in the cells and outputs and in the characters that are written: as many whole lines
-    /// at once as 16 KiB hold, or one. Takes no memory.
+    /// at once as 64 KiB hold, or one. Takes no memory.
     pub fn flush<K: Sink>(&mut self, output: &mut K) -> Result<(), SinkFault>
         ensures whole { OnOk result (TookAll (K.taken output.old) (K.taken output.new)
             (table self.old.program self.old.fill self.old.vectors)) }

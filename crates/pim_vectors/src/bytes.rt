@@ -4,6 +4,7 @@ ghost use Rattle.pim_io.specs.Outside.{Rose, Gave, IsSpent};
 ghost use Rattle.pim_vectors.specs.Lines.{without_return};
 ghost use Rattle.pim_vectors.specs.Next.{NoNewline};
 
+use memchr::memchr;
 use pim_io::{Source, SourceFault};
 
 /// The place of the first newline from a place on, where none stands before that, or the number of bytes. Linear in the bytes
@@ -16,12 +17,10 @@ pub(crate) fn newline_from(bytes: &[u8], from: usize) -> usize
     ensures before { NoNewline bytes.now result }
     ensures found { result < length bytes.now → is_newline (slice_index bytes.now result) ≡ true }
 {
-    for at in from..bytes.len() {
-        if bytes[at] == b'\n' {
-            return at;
-        }
+    match memchr(b'\n', &bytes[from..]) {
+        Some(at) => from + at,
+        None => bytes.len(),
     }
-    bytes.len()
 }
 
 /// How many bytes a text has without the carriage return that it ends in.
