@@ -1,4 +1,4 @@
-ghost use Rattle.std.specs.Prelude.{◌≡◌, ◌<◌, ◌⊎◌, length, Some, None, slice_get, IfOk, IfErr, OnOk};
+ghost use Rattle.std.specs.Prelude.{◌≡◌, ◌<◌, ◌⊎◌, ℕ, List, length, Some, None, slice_get, IfOk, IfErr, OnOk};
 ghost use Rattle.pim_io.specs.Names.{label};
 ghost use Rattle.pim_net.specs.Labels.{IsName};
 
@@ -46,20 +46,22 @@ impl Model for Net {
 
 impl Net {
     ghost use Rattle.pim_net.specs.Netlist.{draft_of};
+    ghost use Rattle.pim_net.specs.Cycles.{IsCycle};
     ghost use Rattle.pim_net.specs.Faults.{net_fault};
     ghost use Rattle.pim_net.specs.Laws.{HasValues, HasInputValues, HasCoverValues};
     ghost use Rattle.pim_net.specs.WellFormed.{IsNet, IsWellFormed};
-    ghost use Rattle.pim_net.specs.declared.fault.NetFault.TheVariants.{NoMemory};
+    ghost use Rattle.pim_net.specs.declared.fault.NetFault.TheVariants.{Cycle, NoMemory};
 
     /// Judges a draft: it is a netlist where each signal has at most one driver, each signal that is read has one, and
-    /// each equation has a depth. A netlist keeps the draft's lists; a refusal is the draft's one fault. Linear in the size
-    /// of the draft and its greatest signal.
+    /// each equation has a depth. A netlist keeps the draft's lists; a refusal is the draft's one fault, and the signals of
+    /// a cycle are one. Linear in the size of the draft and its greatest signal.
     pub fn check(alloc: Global, draft: Draft) -> Result<Net, NetFault>
         ensures kept { IfOk result (λ net. draft_of net ≡ draft) }
         ensures accepted { OnOk result (net_fault draft ≡ None) }
         ensures checked { IfOk result IsNet }
         ensures exact { IsWellFormed draft.inputs draft.equations draft.outputs → IfErr result (λ fault. fault ≡ NoMemory) }
         ensures refused { IfErr result (λ fault. (fault ≡ NoMemory) ⊎ (net_fault draft ≡ Some fault)) }
+        ensures cycle { IfErr result (λ fault. (signals : List ℕ) → fault ≡ Cycle signals → IsCycle draft.equations signals) }
     {
         let Draft {
             inputs,
