@@ -139,7 +139,7 @@ round inputs es outputs table cycle once same all found =
     ∙ ap (option_map Cycle) round
 
 -- the order holds equation numbers
-topo_within : (n : ℕ) (topo : List ℕ) → IsPermutation (range_with_len 0 n) topo → All (λ k. k < n) topo
+pub topo_within : (n : ℕ) (topo : List ℕ) → IsPermutation (range_with_len 0 n) topo → All (λ k. k < n) topo
 topo_within n topo once = All-permutation (λ k. k < n) (range_with_len 0 n) topo once
     (λ i d within. let inside : i < n = omega (arith, length-range_with_len 0 n) in let is = get_or-range_with_len 0 n i d inside in omega (arith, is))
 

@@ -1,7 +1,8 @@
-ghost use Rattle.std.specs.Prelude.{◌≡◌, ◌<◌, ◌⊎◌, ℕ, List, length, Some, None, slice_get, IfOk, IfErr, OnOk};
+ghost use Rattle.std.specs.Prelude.{◌≡◌, ◌<◌, ◌⊎◌, ℕ, List, All, length, Some, None, slice_get, IfOk, IfErr, OnOk};
 ghost use Rattle.pim_io.specs.Names.{label};
 ghost use Rattle.pim_net.specs.Labels.{IsName};
 
+use crate::count::signal_count;
 use crate::judge::judge;
 use crate::{Draft, Equation, Names, NetFault, OutRef};
 use std::alloc::Global;
@@ -130,9 +131,20 @@ impl Net {
         self.output_labels.get(k)
     }
 
+    /// One more than the greatest signal that is driven or read, 0 where there is none. Linear in the parts.
+    pub fn signal_count(&self) -> usize
+        ensures inputs { All (λ s. s < result) self.now.inputs }
+        ensures equations { All (λ e. e.sig < result) self.now.equations }
+        ensures columns { All (λ e. All (λ s. s < result) e.cover.ins) self.now.equations }
+        ensures outputs { All (λ o. o.sig < result) self.now.outputs }
+    {
+        signal_count(&self.inputs, &self.equations, &self.outputs)
+    }
+
     /// The numbers of the equations, by depth and then in order.
     pub fn topo(&self) -> &[u32]
         ensures topo { result.now ≡ self.now.topo }
+        ensures within { All (λ k. k < length self.now.equations) result.now }
         ensures checked { IsNet self.now }
     {
         self.topo.as_slice()
