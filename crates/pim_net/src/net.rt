@@ -1,4 +1,4 @@
-ghost use Rattle.std.specs.Prelude.{◌≡◌, ◌<◌, ◌⊎◌, ℕ, List, All, length, Some, None, slice_get, IfOk, IfErr, OnOk};
+ghost use Rattle.std.specs.Prelude.{◌≡◌, ◌<◌, ◌≤◌, ◌⊎◌, ℕ, List, All, length, Some, None, slice_get, IfOk, IfErr, OnOk};
 ghost use Rattle.pim_io.specs.Names.{label};
 ghost use Rattle.pim_net.specs.Labels.{IsName};
 
@@ -137,6 +137,8 @@ impl Net {
         ensures equations { All (λ e. e.sig < result) self.now.equations }
         ensures columns { All (λ e. All (λ s. s < result) e.cover.ins) self.now.equations }
         ensures outputs { All (λ o. o.sig < result) self.now.outputs }
+        ensures least { (n : ℕ) → All (λ s. s < n) self.now.inputs → All (λ e. e.sig < n) self.now.equations
+            → All (λ e. All (λ s. s < n) e.cover.ins) self.now.equations → All (λ o. o.sig < n) self.now.outputs → result ≤ n }
     {
         signal_count(&self.inputs, &self.equations, &self.outputs)
     }
