@@ -14,9 +14,6 @@ use pim_io::NoMemory;
 use pim_net::{Equation, Net, OutRef};
 use std::alloc::Global;
 
-/// Signals are numbered below this.
-const SIGNALS: usize = 1_048_576;
-
 /// The table of the signals' literals before any equation: inputs have the plain literals of their nodes.
 fn input_table(alloc: Global, signals: usize, inputs: &[u32]) -> Result<Vec<Lit>, NoMemory>
     requires below { All (λ s. s < signals) inputs.now }
@@ -39,13 +36,12 @@ fn equation(
     table: &mut Vec<Lit>,
     equation: &Equation,
 ) -> Result<(), FlatFault>
-    requires len { vec_len table.old ≡ 1048576 }
     requires there { All (IsOfFirst (nodes aig.old)) table.old.items }
-    requires signal { equation.now.sig < 1048576 }
-    requires columns { All (λ s. s < 1048576) equation.now.cover.ins }
+    requires signal { equation.now.sig < vec_len table.old }
+    requires columns { All (λ s. s < vec_len table.old) equation.now.cover.ins }
     ensures made { OnOk result (record { ands = aig.new.ands; lits = literals_of table.new.items }
         ≡ equation_from aig.old.inputs (literals_of table.old.items) aig.old.ands (Some equation.now)) }
-    ensures len { vec_len table.new ≡ 1048576 }
+    ensures len { vec_len table.new ≡ vec_len table.old }
     ensures there { OnOk result (All (IsOfFirst (nodes aig.new)) table.new.items) }
     ensures grown { Grows aig.old aig.new }
     ensures fault { IfErr result (λ fault. Says fault
@@ -58,11 +54,12 @@ fn equation(
 
 /// Makes the AND nodes of all equations by depth, and puts their literals into the table.
 fn equations(alloc: Global, aig: &mut Aig, table: &mut Vec<Lit>, net: &Net) -> Result<(), FlatFault>
-    requires len { vec_len table.old ≡ 1048576 }
     requires there { All (IsOfFirst (nodes aig.old)) table.old.items }
+    requires signals { All (λ e. e.sig < vec_len table.old) net.now.equations }
+    requires columns { All (λ e. All (λ s. s < vec_len table.old) e.cover.ins) net.now.equations }
     ensures made { OnOk result (record { ands = aig.new.ands; lits = literals_of table.new.items }
         ≡ equations_from aig.old.inputs net.now.equations (literals_of table.old.items) aig.old.ands net.now.topo) }
-    ensures len { vec_len table.new ≡ 1048576 }
+    ensures len { vec_len table.new ≡ vec_len table.old }
     ensures there { OnOk result (All (IsOfFirst (nodes aig.new)) table.new.items) }
     ensures grown { Grows aig.old aig.new }
     ensures fault { IfErr result (λ fault. Says fault
@@ -70,9 +67,6 @@ fn equations(alloc: Global, aig: &mut Aig, table: &mut Vec<Lit>, net: &Net) -> R
 {
     let equations = net.equations();
     for k in net.topo() {
-        if *k as usize >= equations.len() {
-            continue;
-        }
         equation(alloc, aig, table, &equations[*k as usize])?;
     }
     Ok(())
@@ -108,7 +102,7 @@ fn outputs(aig: &mut Aig, table: &[Lit], outputs: &[OutRef]) -> Result<(), NoMem
 
 /// The flat graph of a netlist: each equation, by depth and then in order, becomes chains of AND nodes. Nothing is folded
 /// or shared, and at each assignment of the inputs the graph's outputs have the netlist's values. Linear in the cells of all
-/// covers.
+/// covers, the other parts and the greatest signal.
 pub fn flatten(alloc: Global, net: &Net) -> Result<Aig, FlatFault>
     ensures flat { IfOk result (λ aig. aig ≡ flat net.now) }
     ensures values { IfOk result (λ aig. (bits : List Bool) → length bits ≡ length net.now.inputs
@@ -118,7 +112,7 @@ pub fn flatten(alloc: Global, net: &Net) -> Result<Aig, FlatFault>
 {
     net.has_values();
     let mut aig = Aig::new(alloc, net.inputs().len() as u32);
-    let mut table = input_table(alloc, SIGNALS, net.inputs())?;
+    let mut table = input_table(alloc, net.signal_count(), net.inputs())?;
     equations(alloc, &mut aig, &mut table, net)?;
     outputs(&mut aig, &table, net.outputs())?;
     Ok(aig)

@@ -1,14 +1,10 @@
 -- The lines of text in an AIGER file: all of the ASCII form; the header, the outputs and the symbols of the binary form
 -- (AIGER 20071012, "ASCII format" and "Binary format"). Each line that a file has to have ends in a newline.
-use Rattle.std.specs.Prelude.{ℕ, ◌+◌, ◌-◌, ◌==◌, List, [], ◌∷◌, length, take, slice_index, Result, Ok, Err, if◌then◌else◌}
-use Rattle.pim_io.specs.Lines.{LineView, lines}
+use Rattle.std.specs.Prelude.{ℕ, ◌+◌, List, [], ◌∷◌, length, Result, Ok, Err, if◌then◌else◌}
+use Rattle.pim_io.specs.Lines.{LineView, lines, without_return}
 use Rattle.pim_aiger.specs.declared.fault.AigerFault.{AigerFault}
 use Rattle.pim_aiger.specs.declared.fault.AigerFault.TheVariants as faults
 use Rattle.pim_aiger.specs.Cursor.{Cursor, end_of, further}
-
--- a text without the carriage return that it ends in
-abbrev pub without_return : List ℕ → List ℕ
-without_return text = if slice_index text (length text - 1) == 13 then take (length text - 1) text else text
 
 -- the text of a line: a carriage return right before the newline is no part of it
 abbrev pub text_of : LineView → List ℕ

@@ -3,7 +3,7 @@ ghost use Rattle.pim_aiger.specs.HeaderLine.{judged, IsWithin};
 ghost use Rattle.pim_aiger.specs.Steps.{Gives};
 
 use crate::fault::AigerFault;
-use pim_net::Kind;
+use pim_net::{Kind, MAX_OUTPUTS, MAX_SIGNALS};
 
 /// The form of a file.
 #[derive(Clone, Copy, Debug, PartialEq, Eq)]
@@ -42,10 +42,10 @@ impl Header {
         if !agrees {
             return Err(AigerFault::Header);
         }
-        if self.most > 1_048_575 {
+        if self.most >= MAX_SIGNALS {
             return Err(AigerFault::TooLarge(Kind::Signals));
         }
-        if self.outputs > 1_048_576 {
+        if self.outputs > MAX_OUTPUTS {
             return Err(AigerFault::TooLarge(Kind::Outputs));
         }
         Ok(self)

@@ -1,4 +1,4 @@
-//! AIGER netlists: the bytes of a file in the ASCII or the binary form become a checked netlist of one cover per and
+//! AIGER netlists: the bytes of a file in the ASCII or the binary form become a checked netlist of one cover per AND
 //! gate, or the first fault in the file with its byte place.
 #![tactic(auto)]
 

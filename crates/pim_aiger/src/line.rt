@@ -1,20 +1,9 @@
 ghost use Rattle.std.specs.Prelude.{◌≡◌};
 ghost use Rattle.pim_io.specs.Lines.{line_of};
-ghost use Rattle.pim_aiger.specs.TextLines.{text_of, without_return};
+ghost use Rattle.pim_aiger.specs.TextLines.{text_of};
 ghost use Rattle.pim_aiger.specs.SymbolTable.{is_comment};
 
-use pim_io::Line;
-
-/// A text without the carriage return that it ends in.
-pub(crate) fn without_return(text: &[u8]) -> &[u8]
-    ensures { result.now ≡ without_return text.now }
-{
-    let length = text.len();
-    if length > 0 && text[length - 1] == b'\r' {
-        return &text[..length - 1];
-    }
-    text
-}
+use pim_io::{Line, without_return};
 
 /// The text of a line: a carriage return right before the newline is no part of it.
 pub(crate) fn text_of<'a>(line: &Line<'a>) -> &'a [u8]

@@ -6,7 +6,7 @@ use crate::fault::AigerFault;
 use crate::header::Header;
 use crate::line::{is_comment, text_of};
 use crate::symbol::{Port, symbol_of};
-use pim_io::{NoMemory, Scan};
+use pim_io::{MAX_NAME, NoMemory, Scan};
 use pim_net::Kind;
 use std::alloc::Global;
 use std::marker::Model;
@@ -91,7 +91,7 @@ impl<'a> GivenNames<'a> {
         if symbol.position >= symbol.port.count(header) {
             return Err(AigerFault::Symbol(place));
         }
-        if symbol.name.len() > 4096 {
+        if symbol.name.len() > MAX_NAME {
             return Err(AigerFault::TooLarge(Kind::Name));
         }
         let name = GivenName { bytes: symbol.name };

@@ -4,8 +4,7 @@ ghost use Rattle.pim_aiger.specs.Steps.{Gives};
 ghost use Rattle.pim_aiger.specs.TextLines.{line_at};
 
 use crate::fault::AigerFault;
-use crate::line::without_return;
-use pim_io::Scan;
+use pim_io::{Scan, without_return};
 use std::marker::Model;
 
 mod codes;

@@ -3,7 +3,7 @@ ghost use Rattle.std.specs.List.{position};
 ghost use Rattle.pim_aiger.specs.SymbolTable.{count_of, symbol_of, with_space, symbol_view};
 
 use crate::header::Header;
-use pim_io::number;
+use pim_io::{first_space, number};
 
 /// Whether a symbol names an input or an output.
 #[derive(Clone, Copy, Debug, PartialEq, Eq)]
@@ -60,12 +60,4 @@ fn positioned(port: Port, text: &[u8]) -> Option<Symbol<'_>>
         position,
         name,
     })
-}
-
-/// Where the first space of a text stands.
-fn first_space(text: &[u8]) -> Option<usize>
-    ensures place { result ≡ position (λ b. b == 32) text.now }
-    ensures within { IfSome result (λ k. k < length text.now) }
-{
-    text.iter().position(|b| *b == b' ')
 }

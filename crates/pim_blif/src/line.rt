@@ -4,7 +4,7 @@ ghost use Rattle.pim_io.specs.Words.{is_blank, words};
 ghost use Rattle.pim_blif.specs.Statements.{is_hash, trimmed, content, goes_on, words_of};
 ghost use Rattle.pim_blif.specs.Reading.{texts};
 
-use pim_io::{NoMemory, Words};
+use pim_io::{NoMemory, Words, is_blank};
 
 /// Appends the words of a line, at most half as many as it has bytes, and says whether the next line is joined to it. Linear in the line.
 #[tactic(auto, using(crate::proofs::Joins::joined_few, crate::proofs::Joins::joined_some))]
@@ -88,13 +88,6 @@ fn trimmed(text: &[u8]) -> &[u8]
         end -= 1;
     }
     &text[..end]
-}
-
-/// Whether a byte is a space, a tab or a carriage return.
-fn is_blank(b: u8) -> bool
-    ensures { result ≡ is_blank b }
-{
-    b == b' ' || b == b'\t' || b == b'\r'
 }
 
 /// Appends the words of a text.

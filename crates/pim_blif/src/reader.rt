@@ -10,7 +10,7 @@ use crate::inputs::InputMarks;
 use crate::signals::{signal, signals};
 use crate::table::NameTable;
 use pim_io::NoMemory;
-use pim_net::{Bit3, Draft, Equation, Kind, OutRef};
+use pim_net::{Bit3, Draft, Equation, Kind, MAX_OUTPUTS, OutRef};
 use std::alloc::Global;
 use std::marker::Model;
 
@@ -92,7 +92,7 @@ impl<'a> Reader<'a> {
         ensures used { OnOk result (words_used self.new ≡ words_used self.old) }
     {
         let sig = signal(&mut self.names, name)?;
-        if self.outputs >= 1_048_576 {
+        if self.outputs >= MAX_OUTPUTS {
             return Err(BlifFault::TooLarge(Kind::Outputs));
         }
         self.draft.add_output(OutRef { sig, neg: false }, name)?;

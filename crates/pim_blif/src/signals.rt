@@ -7,7 +7,8 @@ ghost use Rattle.pim_blif.specs.Steps.{Gives};
 
 use crate::fault::BlifFault;
 use crate::table::NameTable;
-use pim_net::Kind;
+use pim_io::MAX_NAME;
+use pim_net::{Kind, MAX_SIGNALS};
 use std::alloc::Global;
 
 /// The number of a name, which is appended where it is new: it has at most 4,096 bytes, and there are at most 1,048,576
@@ -20,14 +21,14 @@ pub(crate) fn signal<'a>(names: &mut NameTable<'a>, name: &'a [u8]) -> Result<u3
     ensures below { IfOk result (λ sig. sig < 1048576) }
     ensures labelled { OnOk result (IsName name.now) }
 {
-    if name.len() > 4096 {
+    if name.len() > MAX_NAME {
         return Err(BlifFault::TooLarge(Kind::Name));
     }
     let count = names.len();
     if let Some(sig) = names.find(name) {
         return Ok(sig);
     }
-    if count >= 1_048_576 {
+    if count >= MAX_SIGNALS {
         return Err(BlifFault::TooLarge(Kind::Signals));
     }
     Ok(names.number(name)?)

@@ -1,5 +1,5 @@
 -- The lines of bytes: each is a piece that ends in a newline, or a last piece that is not empty.
-use Rattle.std.specs.Prelude.{ℕ, ◌+◌, ◌==◌, List, [], ◌∷◌, ◌++◌, Bool, true, false, if◌then◌else◌, length, drop}
+use Rattle.std.specs.Prelude.{ℕ, ◌+◌, ◌-◌, ◌==◌, List, [], ◌∷◌, ◌++◌, Bool, true, false, if◌then◌else◌, length, take, drop, slice_index}
 use Rattle.pim_io.specs.declared.scan.Line.{Line}
 
 -- a line: its number, the place of its first byte, its bytes without the newline, and whether there was a newline
@@ -23,6 +23,10 @@ last_line number start (b ∷ text) = record { number = number; start = start; t
 -- the byte that ends a line
 abbrev pub is_newline : ℕ → Bool
 is_newline b = b == 10
+
+-- a text without the carriage return that it ends in
+abbrev pub without_return : List ℕ → List ℕ
+without_return text = if slice_index text (length text - 1) == 13 then take (length text - 1) text else text
 
 -- the lines from the line `number` on, which begins at the place `start` with `text`; the bytes follow that
 abbrev pub lines_after : ℕ → ℕ → List ℕ → List ℕ → List LineView

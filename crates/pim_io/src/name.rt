@@ -5,6 +5,9 @@ use crate::NoMemory;
 use std::alloc::Global;
 use std::marker::Model;
 
+/// The most bytes of a name.
+pub const MAX_NAME: usize = 4_096;
+
 /// The label of a signal, as it is printed: 1 to 4,096 bytes, none of them below 32 or 127.
 #[derive(Debug, Drop)]
 pub struct Name {

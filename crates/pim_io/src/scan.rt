@@ -1,5 +1,5 @@
 ghost use Rattle.std.specs.Prelude.{◌≡◌, ℕ, ◌∷◌, ◌<◌, ◌≤◌, ◌^◌, [], true, false, length, slice_index, IfSome, MatchOption};
-ghost use Rattle.pim_io.specs.Lines.{line_of, lines_left, after_line, is_newline};
+ghost use Rattle.pim_io.specs.Lines.{line_of, lines_left, after_line, is_newline, without_return};
 
 use std::marker::Model;
 
@@ -83,6 +83,17 @@ impl<'a> Scan<'a> {
             ended: false,
         })
     }
+}
+
+/// A text without the carriage return that it ends in.
+pub fn without_return(text: &[u8]) -> &[u8]
+    ensures { result.now ≡ without_return text.now }
+{
+    let length = text.len();
+    if length > 0 && text[length - 1] == b'\r' {
+        return &text[..length - 1];
+    }
+    text
 }
 
 /// How many bytes stand before the first newline.

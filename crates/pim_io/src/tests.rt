@@ -1,6 +1,7 @@
 use crate::{
     Code, Line, MemSink, MemSource, Name, ReadAllFault, ReadSource, Scan, SliceSource, Words,
-    WriteSink, get_code, number, put_code, read_all, write_all,
+    WriteSink, first_space, get_code, is_blank, number, put_code, read_all, without_return,
+    write_all,
 };
 use std::test::Fail;
 
@@ -67,6 +68,15 @@ fn words_are_cut(rt: HostRuntime) {
     assert_eq!(rt; words.word(), Some(b"one".as_slice()));
     assert_eq!(rt; words.word(), Some(b"two".as_slice()));
     assert_eq!(rt; words.word(), None);
+}
+
+#[test]
+fn single_bytes_are_found(rt: HostRuntime) {
+    assert!(rt; is_blank(b'\r') && is_blank(b'\t') && is_blank(b' ') && !is_blank(b'\n'));
+    assert_eq!(rt; first_space(b"i0 a b"), Some(2));
+    assert_eq!(rt; first_space(b"i0\ta"), None);
+    assert_eq!(rt; without_return(b"a\r\r"), b"a\r".as_slice());
+    assert_eq!(rt; without_return(b"\ra"), b"\ra".as_slice());
 }
 
 #[test]

@@ -1,4 +1,5 @@
-ghost use Rattle.std.specs.Prelude.{◌≡◌, ℕ, ◌∷◌, ◌<◌, ◌≤◌, [], true, false, length, slice_index, IfSome, MatchOption};
+ghost use Rattle.std.specs.Prelude.{◌≡◌, ℕ, ◌∷◌, ◌<◌, ◌≤◌, ◌==◌, [], true, false, length, slice_index, IfSome, MatchOption};
+ghost use Rattle.std.specs.List.{position};
 ghost use Rattle.pim_io.specs.Words.{is_blank, words, number_of};
 
 use std::marker::Model;
@@ -73,10 +74,18 @@ fn word_len(text: &[u8]) -> usize
 }
 
 /// Whether a byte is a space, a tab or a carriage return.
-fn is_blank(b: u8) -> bool
+pub fn is_blank(b: u8) -> bool
     ensures { result ≡ is_blank b }
 {
     b == b' ' || b == b'\t' || b == b'\r'
+}
+
+/// Where the first space of a text stands.
+pub fn first_space(text: &[u8]) -> Option<usize>
+    ensures place { result ≡ position (λ b. b == 32) text.now }
+    ensures within { IfSome result (λ k. k < length text.now) }
+{
+    text.iter().position(|b| *b == b' ')
 }
 
 /// The number that a word spells: `Some` exactly for 1 to 10 decimal digits of a value below 2^32. Leading zeros are

@@ -6,6 +6,7 @@ use Rattle.pim_isa.specs.declared.instr.Instr.TheVariants.{Init, Nor, Rm3}
 use Rattle.pim_isa.specs.Touches.{writes}
 use Rattle.pim_isa.specs.Validity.{has}
 
+-- an instruction is an Init
 abbrev pub is_init : Instr → Bool
 is_init (Init cells) = true
 is_init (Nor t ins) = false

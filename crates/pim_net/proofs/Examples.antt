@@ -1,6 +1,8 @@
 -- Small drafts, with their faults, values and depths by computation.
 use Rattle.std.specs.Prelude.{◌≡◌, ℕ, true, false, List, [], ◌∷◌, Some, None, refl}
+use Rattle.std.proofs.Common.{◌+◌, ◌<◌, zero, suc, length, get_or, ap, sym, ◌∙◌, lit<, arith}
 use Rattle.pim_net.specs.Netlist.{DraftView, NetView}
+use Rattle.pim_net.specs.Cycles.{Reads, IsCycle}
 use Rattle.pim_net.specs.Values.{outs}
 use Rattle.pim_net.specs.Depths.{depth}
 use Rattle.pim_net.specs.Faults.{net_fault}
@@ -71,6 +73,29 @@ itself = refl
 -- 3 reads 4 and 4 reads 3; what reads the cycle is not part of it
 two_cycle : net_fault (draft [] (row 7 (3 ∷ []) (One ∷ []) ∷ row 3 (4 ∷ []) (One ∷ []) ∷ row 4 (3 ∷ []) (One ∷ []) ∷ []) (out 7 ∷ [])) ≡ Some (Cycle (3 ∷ 4 ∷ []))
 two_cycle = refl
+
+-- that list is a cycle: the equation at 1 reads 4, and the one at 2 reads 3
+is_two_cycle : IsCycle (row 7 (3 ∷ []) (One ∷ []) ∷ row 3 (4 ∷ []) (One ∷ []) ∷ row 4 (3 ∷ []) (One ∷ []) ∷ []) (3 ∷ 4 ∷ [])
+is_two_cycle = record {
+  some = lit< tt;
+  next = after;
+  round = (row 4 (3 ∷ []) (One ∷ []), (2, lit< tt, refl), refl, (0, lit< tt, refl));
+}
+  where
+    after : (i : ℕ) → i + 1 < 2 → Reads (row 7 (3 ∷ []) (One ∷ []) ∷ row 3 (4 ∷ []) (One ∷ []) ∷ row 4 (3 ∷ []) (One ∷ []) ∷ []) (get_or (3 ∷ 4 ∷ []) i 0) (get_or (3 ∷ 4 ∷ []) (i + 1) 0)
+    after zero h = (row 3 (4 ∷ []) (One ∷ []), (1, lit< tt, refl), refl, (0, lit< tt, refl))
+    after (suc i) h = absurd (omega arith)
+
+-- 3 alone is no cycle where its equation reads 4 alone
+not_alone : IsCycle (row 3 (4 ∷ []) (One ∷ []) ∷ []) (3 ∷ []) → ⊥
+not_alone cycle =
+    let r = cycle.round in
+    let first : (r.1).0 ≡ 0 = omega (arith, (r.1).1) in
+    let equation : row 3 (4 ∷ []) (One ∷ []) ≡ r.0 = ap (λ k. get_or (row 3 (4 ∷ []) (One ∷ []) ∷ []) k r.0) (sym first) ∙ (r.1).2 in
+    let long : 1 ≡ length r.0.cover.ins = ap (λ (e : Equation). length e.cover.ins) equation in
+    let only : (r.3).0 ≡ 0 = omega (arith, long, (r.3).1) in
+    let column : 4 ≡ 3 = ap (λ (e : Equation). get_or e.cover.ins 0 3) equation ∙ ap (λ j. get_or r.0.cover.ins j 3) (sym only) ∙ (r.3).2 in
+    omega (arith, column)
 
 -- an equation's column before an output
 column_undriven : net_fault (draft (0 ∷ []) (row 1 (0 ∷ 8 ∷ []) (One ∷ One ∷ []) ∷ []) (out 9 ∷ [])) ≡ Some (Undriven 8)

@@ -4,6 +4,7 @@ pub mod Equations
 pub mod Exact
 pub mod Marking
 pub mod Repeats
+pub mod Rounds
 pub mod Rows
 pub mod SignalsRead
 pub mod Tables

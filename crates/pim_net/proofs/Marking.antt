@@ -7,7 +7,7 @@ use Rattle.std.proofs.lemmas.List.Folds.{sum_by-replicate}
 use Rattle.std.proofs.lemmas.Bool.{cases_eq}
 use Rattle.pim_net.specs.Tables.{drivers_of}
 use Rattle.pim_net.specs.Depths.{deepest, driver_depth, depth_below}
-use Rattle.pim_net.specs.Walks.{ins, sig, IsWired, deep, mark, is_new, is_deep, Among, Apart, EachOpen, EachBelow, IsFrame, IsTrail, IsMarked, marked_depth, depth_mark, column_of, IsLevelled, IsRound, IsCycle}
+use Rattle.pim_net.specs.Walks.{ins, sig, IsWired, deep, mark, is_new, is_deep, Among, Apart, EachOpen, EachBelow, IsFrame, IsTrail, IsMarked, marked_depth, depth_mark, column_of, IsLevelled, IsRound, IsCycleFault}
 use Rattle.pim_net.specs.Drivers.{sigs}
 use Rattle.pim_net.specs.Faults.{walk, cycle_by}
 use Rattle.pim_net.specs.declared.fault.NetFault.{NetFault}
@@ -244,15 +244,17 @@ has_depth Open o h e = cc
 has_depth (Deep l) o h e = ap is_none e
 
 -- the cycle from a root whose walk came round
-pub cycle_from : (es : List Equation) (table : List Driver) (marks : List Mark) (root : ℕ) (fault : NetFault) → root < length es → IsMarked es table marks [] → ((k : ℕ) → k < root → is_new (mark marks k) ≡ false) → IsRound es table root fault → IsCycle es table fault
+pub cycle_from : (es : List Equation) (table : List Driver) (marks : List Mark) (root : ℕ) (fault : NetFault) → root < length es → IsMarked es table marks [] → ((k : ℕ) → k < root → is_new (mark marks k) ≡ false) → IsRound es table root fault → IsCycleFault es table fault
 cycle_from es table marks root (Twice s) within marked came round = round
 cycle_from es table marks root (Undriven s) within marked came round = round
 cycle_from es table marks root NoMemory within marked came round = tt
 cycle_from es table marks root (Cycle cycle) within marked came round =
-    let w = first_without (deep es table) es root within (λ k h. let d = deep_of es table marks k marked (came k h) in has_depth (mark marks k) (deep es table (sig es k)) d.0 d.1) round.0 in
-    ap (option_map (λ (e : Equation). walk (drivers_of table) (deep es table) es (suc (length es)) [] (Some e.sig))) w.1
-    ∙ ap (λ s. Some (walk (drivers_of table) (deep es table) es (suc (length es)) [] (Some s))) w.2
-    ∙ ap Some round.1
+    let w = first_without (deep es table) es root within (λ k h. let d = deep_of es table marks k marked (came k h) in has_depth (mark marks k) (deep es table (sig es k)) d.0 d.1) round.0 in (
+      ap (option_map (λ (e : Equation). walk (drivers_of table) (deep es table) es (suc (length es)) [] (Some e.sig))) w.1
+          ∙ ap (λ s. Some (walk (drivers_of table) (deep es table) es (suc (length es)) [] (Some s))) w.2
+          ∙ ap Some round.1,
+      round.2,
+    )
 
 -- without a cycle each equation has its depth
 pub levelled_is : (es : List Equation) (table : List Driver) (marks : List Mark) → IsLevelled es table marks → cycle_by (drivers_of table) (deep es table) es ≡ None

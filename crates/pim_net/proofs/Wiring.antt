@@ -16,7 +16,7 @@ use Rattle.pim_net.specs.Depths.{depth, depth_below}
 use Rattle.pim_net.specs.Faults.{first_repeat, fault_of, cycle_by, IsRefusal}
 use Rattle.pim_net.specs.Order.{equation_level, IsByDepth}
 use Rattle.pim_net.specs.WellFormed.{IsWellFormed, IsReady, IsReadyOrder, columns}
-use Rattle.pim_net.specs.Walks.{ins, sig, IsWired, deep, mark, is_deep, depth_mark, level, IsLevelled, IsBefore, IsCycle}
+use Rattle.pim_net.specs.Walks.{ins, sig, IsWired, deep, mark, is_deep, depth_mark, level, IsLevelled, IsBefore, IsCycleFault}
 use Rattle.pim_net.specs.declared.parts.Equation.{Equation}
 use Rattle.pim_net.specs.declared.parts.OutRef.{OutRef}
 use Rattle.pim_net.specs.declared.driver.Driver.{Driver}
@@ -139,7 +139,7 @@ round inputs es outputs table cycle once same all found =
     ∙ ap (option_map Cycle) round
 
 -- the order holds equation numbers
-topo_within : (n : ℕ) (topo : List ℕ) → IsPermutation (range_with_len 0 n) topo → All (λ k. k < n) topo
+pub topo_within : (n : ℕ) (topo : List ℕ) → IsPermutation (range_with_len 0 n) topo → All (λ k. k < n) topo
 topo_within n topo once = All-permutation (λ k. k < n) (range_with_len 0 n) topo once
     (λ i d within. let inside : i < n = omega (arith, length-range_with_len 0 n) in let is = get_or-range_with_len 0 n i d inside in omega (arith, is))
 
@@ -212,8 +212,8 @@ ready inputs es table marks topo wired same levelled once rising = λ i h.
 
 -- a cycle by the table is the cycle of the parts
 pub refused : (inputs : List ℕ) (es : List Equation) (outputs : List OutRef) (table : List Driver) (fault : NetFault) → first_repeat [] (driven inputs es) ≡ None → drivers_of table ≡ driver inputs es
-    → find (λ s. is_nobody (drivers_of table s)) (read es outputs) ≡ None → IsCycle es table fault → IsRefusal inputs es outputs fault
+    → find (λ s. is_nobody (drivers_of table s)) (read es outputs) ≡ None → IsCycleFault es table fault → IsRefusal inputs es outputs fault
 refused inputs es outputs table (Twice s) once same all h = absurd h
 refused inputs es outputs table (Undriven s) once same all h = absurd h
-refused inputs es outputs table (Cycle cycle) once same all h = inr (round inputs es outputs table cycle once same all h)
+refused inputs es outputs table (Cycle cycle) once same all h = inr (round inputs es outputs table cycle once same all h.0)
 refused inputs es outputs table NoMemory once same all h = inl refl

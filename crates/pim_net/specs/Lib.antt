@@ -1,4 +1,5 @@
 pub mod Covers
+pub mod Cycles
 pub mod Depths
 pub mod Drivers
 pub mod Faults

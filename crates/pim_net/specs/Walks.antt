@@ -3,6 +3,7 @@ use Rattle.std.specs.Prelude.{◌≡◌, ◌≢◌, ◌<◌, ◌≤◌, ◌+◌,
 use Rattle.pim_net.specs.Drivers.{sigs, is_nobody}
 use Rattle.pim_net.specs.Tables.{drivers_of}
 use Rattle.pim_net.specs.Depths.{deepest, depth_below}
+use Rattle.pim_net.specs.Cycles.{IsCycle}
 use Rattle.pim_net.specs.Faults.{walk, cycle_by}
 use Rattle.pim_net.specs.WellFormed.{columns}
 use Rattle.pim_net.specs.declared.fault.NetFault.{NetFault}
@@ -41,11 +42,13 @@ deep equations table s = depth_below (drivers_of table) equations (suc (length e
 abbrev pub mark : List Mark → ℕ → Mark
 mark marks k = slice_index_or marks k New
 
+-- an equation has no mark yet
 abbrev pub is_new : Mark → Bool
 is_new New = true
 is_new Open = false
 is_new (Deep depth) = false
 
+-- an equation has its depth
 abbrev pub is_deep : Mark → Bool
 is_deep New = false
 is_deep Open = false
@@ -140,13 +143,14 @@ pub record IsVisited (equations : List Equation) (table : List Driver) (root : �
   pub came : is_new (mark now root) ≡ false
 
 -- a walk from equation root came round: its signal has no depth, and the walk to the first columns without one gives this
--- cycle; or memory was wanting
+-- list, which is a cycle; or memory was wanting
 abbrev pub IsRound : List Equation → List Driver → ℕ → NetFault → Type 0
 IsRound equations table root (Twice s) = ⊥
 IsRound equations table root (Undriven s) = ⊥
 IsRound equations table root (Cycle cycle) =
     (deep equations table (sig equations root) ≡ None)
     × (walk (drivers_of table) (deep equations table) equations (suc (length equations)) [] (Some (sig equations root)) ≡ cycle)
+    × IsCycle equations cycle
 IsRound equations table root NoMemory = Unit {0}
 
 -- the signals of a trail
@@ -159,12 +163,13 @@ pub record IsLevelled (equations : List Equation) (table : List Driver) (marks :
   pub all : (k : ℕ) → k < length equations → is_deep (mark marks k) ≡ true
   pub depths : (k : ℕ) → k < length equations → deep equations table (sig equations k) ≡ depth_mark (mark marks k)
 
--- a cycle by the table, or want of memory
-abbrev pub IsCycle : List Equation → List Driver → NetFault → Type 0
-IsCycle equations table (Twice s) = ⊥
-IsCycle equations table (Undriven s) = ⊥
-IsCycle equations table (Cycle cycle) = cycle_by (drivers_of table) (deep equations table) equations ≡ Some cycle
-IsCycle equations table NoMemory = Unit {0}
+-- the list that a walk by the table comes to, which is a cycle; or want of memory
+abbrev pub IsCycleFault : List Equation → List Driver → NetFault → Type 0
+IsCycleFault equations table (Twice s) = ⊥
+IsCycleFault equations table (Undriven s) = ⊥
+IsCycleFault equations table (Cycle cycle) =
+    (cycle_by (drivers_of table) (deep equations table) equations ≡ Some cycle) × IsCycle equations cycle
+IsCycleFault equations table NoMemory = Unit {0}
 
 -- the depth of a mark, 0 where it has none
 abbrev pub level : List Mark → ℕ → ℕ

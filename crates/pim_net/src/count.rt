@@ -1,4 +1,4 @@
-ghost use Rattle.std.specs.Prelude.{◌<◌, ◌≤◌, ◌^◌, All};
+ghost use Rattle.std.specs.Prelude.{◌<◌, ◌≤◌, ◌^◌, ℕ, All};
 
 use crate::{Equation, OutRef};
 
@@ -8,6 +8,8 @@ pub(crate) fn signal_count(inputs: &[u32], equations: &[Equation], outputs: &[Ou
     ensures equations { All (λ e. e.sig < result) equations.now }
     ensures columns { All (λ e. All (λ s. s < result) e.cover.ins) equations.now }
     ensures outputs { All (λ o. o.sig < result) outputs.now }
+    ensures least { (n : ℕ) → All (λ s. s < n) inputs.now → All (λ e. e.sig < n) equations.now
+        → All (λ e. All (λ s. s < n) e.cover.ins) equations.now → All (λ o. o.sig < n) outputs.now → result ≤ n }
 {
     let mut count = above(inputs);
     'equations: for equation in equations {
@@ -25,6 +27,7 @@ pub(crate) fn signal_count(inputs: &[u32], equations: &[Equation], outputs: &[Ou
 fn above(signals: &[u32]) -> usize
     ensures below { All (λ s. s < result) signals.now }
     ensures small { result ≤ 2 ^ 32 }
+    ensures least { (n : ℕ) → All (λ s. s < n) signals.now → result ≤ n }
 {
     let mut count: usize = 0;
     'signals: for sig in signals {

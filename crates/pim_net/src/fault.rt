@@ -13,7 +13,7 @@ pub enum NetFault {
     /// nothing drives.
     #[error("a signal has no driver")]
     Undriven(u32),
-    /// Signals of which each one's equation reads the next, and the last one's the first.
+    /// A cycle: one signal or more, of which each one's equation reads the next, and the last one's the first.
     #[error("signals form a cycle")]
     Cycle(Signals),
     /// There was no memory.

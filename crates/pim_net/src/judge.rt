@@ -1,6 +1,8 @@
-ghost use Rattle.std.specs.Prelude.{◌≡◌, ◌<◌, ◌^◌, All, MatchResult, length};
+ghost use Rattle.std.specs.Prelude.{◌≡◌, ◌<◌, ◌^◌, All, IfErr, MatchResult, ℕ, List, length};
+ghost use Rattle.pim_net.specs.Cycles.{IsCycle};
 ghost use Rattle.pim_net.specs.Faults.{IsRefusal};
 ghost use Rattle.pim_net.specs.Judged.{IsJudged};
+ghost use Rattle.pim_net.specs.declared.fault.NetFault.TheVariants.{Cycle};
 
 use crate::count::signal_count;
 use crate::levels::levels;
@@ -21,9 +23,10 @@ pub(crate) fn judge(
     requires inputs_few { length inputs.now < 2 ^ 28 }
     requires equations_few { length equations.now < 2 ^ 28 }
     requires columns_few { All (λ e. length e.cover.ins < 2 ^ 28) equations.now }
-    ensures { MatchResult result
+    ensures judged { MatchResult result
         (λ topo. IsJudged inputs.now equations.now outputs.now topo.items)
         (IsRefusal inputs.now equations.now outputs.now) }
+    ensures cycle { IfErr result (λ fault. (signals : List ℕ) → fault ≡ Cycle signals → IsCycle equations.now signals) }
 {
     let size = signal_count(inputs, equations, outputs);
     let table = drivers(alloc, inputs, equations, size)?;

@@ -1,5 +1,5 @@
 ghost use Rattle.std.specs.Prelude.{◌≡◌, MatchResult};
-ghost use Rattle.pim_net.specs.Walks.{IsWired, IsLevelled, IsCycle, is_new};
+ghost use Rattle.pim_net.specs.Walks.{IsWired, IsLevelled, IsCycleFault, is_new};
 
 use crate::driver::Driver;
 use crate::mark::Mark;
@@ -17,7 +17,7 @@ pub(crate) fn levels(
     requires { IsWired equations.now table.now }
     ensures { MatchResult result
         (λ marks. IsLevelled equations.now table.now marks.items)
-        (IsCycle equations.now table.now) }
+        (IsCycleFault equations.now table.now) }
 {
     let mut marks = vec![in alloc; Mark::New; equations.len()]?;
     let mut path = Vec::new(alloc);

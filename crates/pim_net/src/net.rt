@@ -1,7 +1,8 @@
-ghost use Rattle.std.specs.Prelude.{◌≡◌, ◌<◌, ◌⊎◌, length, Some, None, slice_get, IfOk, IfErr, OnOk};
+ghost use Rattle.std.specs.Prelude.{◌≡◌, ◌<◌, ◌≤◌, ◌⊎◌, ℕ, List, All, length, Some, None, slice_get, IfOk, IfErr, OnOk};
 ghost use Rattle.pim_io.specs.Names.{label};
 ghost use Rattle.pim_net.specs.Labels.{IsName};
 
+use crate::count::signal_count;
 use crate::judge::judge;
 use crate::{Draft, Equation, Names, NetFault, OutRef};
 use std::alloc::Global;
@@ -46,20 +47,22 @@ impl Model for Net {
 
 impl Net {
     ghost use Rattle.pim_net.specs.Netlist.{draft_of};
+    ghost use Rattle.pim_net.specs.Cycles.{IsCycle};
     ghost use Rattle.pim_net.specs.Faults.{net_fault};
     ghost use Rattle.pim_net.specs.Laws.{HasValues, HasInputValues, HasCoverValues};
     ghost use Rattle.pim_net.specs.WellFormed.{IsNet, IsWellFormed};
-    ghost use Rattle.pim_net.specs.declared.fault.NetFault.TheVariants.{NoMemory};
+    ghost use Rattle.pim_net.specs.declared.fault.NetFault.TheVariants.{Cycle, NoMemory};
 
     /// Judges a draft: it is a netlist where each signal has at most one driver, each signal that is read has one, and
-    /// each equation has a depth. A netlist keeps the draft's lists; a refusal is the draft's one fault. Linear in the size
-    /// of the draft and its greatest signal.
+    /// each equation has a depth. A netlist keeps the draft's lists; a refusal is the draft's one fault, and the signals of
+    /// a cycle are one. Linear in the size of the draft and its greatest signal.
     pub fn check(alloc: Global, draft: Draft) -> Result<Net, NetFault>
         ensures kept { IfOk result (λ net. draft_of net ≡ draft) }
         ensures accepted { OnOk result (net_fault draft ≡ None) }
         ensures checked { IfOk result IsNet }
         ensures exact { IsWellFormed draft.inputs draft.equations draft.outputs → IfErr result (λ fault. fault ≡ NoMemory) }
         ensures refused { IfErr result (λ fault. (fault ≡ NoMemory) ⊎ (net_fault draft ≡ Some fault)) }
+        ensures cycle { IfErr result (λ fault. (signals : List ℕ) → fault ≡ Cycle signals → IsCycle draft.equations signals) }
     {
         let Draft {
             inputs,
@@ -128,9 +131,22 @@ impl Net {
         self.output_labels.get(k)
     }
 
+    /// One more than the greatest signal that is driven or read, 0 where there is none. Linear in the parts.
+    pub fn signal_count(&self) -> usize
+        ensures inputs { All (λ s. s < result) self.now.inputs }
+        ensures equations { All (λ e. e.sig < result) self.now.equations }
+        ensures columns { All (λ e. All (λ s. s < result) e.cover.ins) self.now.equations }
+        ensures outputs { All (λ o. o.sig < result) self.now.outputs }
+        ensures least { (n : ℕ) → All (λ s. s < n) self.now.inputs → All (λ e. e.sig < n) self.now.equations
+            → All (λ e. All (λ s. s < n) e.cover.ins) self.now.equations → All (λ o. o.sig < n) self.now.outputs → result ≤ n }
+    {
+        signal_count(&self.inputs, &self.equations, &self.outputs)
+    }
+
     /// The numbers of the equations, by depth and then in order.
     pub fn topo(&self) -> &[u32]
         ensures topo { result.now ≡ self.now.topo }
+        ensures within { All (λ k. k < length self.now.equations) result.now }
         ensures checked { IsNet self.now }
     {
         self.topo.as_slice()

@@ -21,8 +21,8 @@ fn put_gate(gates: &mut Vec<u32>, pin: Pin) -> Result<(), NoMemory>
     Ok(())
 }
 
-/// Makes the list that of the gates of these pins, in their order and each once. It takes the square of their number,
-/// so it is for the few operands of a gate.
+/// Replaces what a list holds by the gates of these pins, in their order and each once. It takes the square of their
+/// number, so it is for the few operands of a gate.
 fn put_gates(gates: &mut Vec<u32>, pins: &[Pin]) -> Result<(), NoMemory>
     ensures { OnOk result (gates.new.items ≡ gates_among pins.now) }
 {
@@ -33,7 +33,7 @@ fn put_gates(gates: &mut Vec<u32>, pins: &[Pin]) -> Result<(), NoMemory>
     Ok(())
 }
 
-/// Makes the list that of the gates that a gate reads, in the order of its operands and each once.
+/// Replaces what a list holds by the gates that a gate reads, in the order of its operands and each once.
 fn put_gates_read(gates: &mut Vec<u32>, gate: Gate) -> Result<(), NoMemory>
     ensures { OnOk result (gates.new.items ≡ gates_read gate) }
 {

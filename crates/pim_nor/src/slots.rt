@@ -2,13 +2,16 @@ ghost use Rattle.std.specs.Prelude.{◌≡◌, ◌+◌, ◌*◌, ◌<◌, ◌≤
 ghost use Rattle.pim_nor.specs.Named.{literal_at, source};
 
 use crate::Pin;
-use pim_aig::Lit;
+use pim_aig::{Lit, MAX_ANDS, MAX_INPUTS};
+
+/// The most slots of a graph: two for the constants, one for each input, and two for each AND node.
+const MAX_SLOTS: u32 = 2 + MAX_INPUTS + 2 * MAX_ANDS;
 
 /// The literal that the gate of a slot has the value of. Slot 0 is true and slot 1 false; then come the complements of
 /// the inputs, the last input's first, and for each AND node its value and its complement.
 pub(crate) fn literal_at(inputs: u32, slot: u32) -> Lit
     requires inputs_fit { inputs ≤ 1048576 }
-    requires slot_fits { slot ≤ 3145730 }
+    requires slot_fits { slot ≤ MAX_SLOTS }
     ensures { result ≡ literal_at inputs slot }
 {
     if slot < 2 {

@@ -10,7 +10,7 @@ use super::Reader;
 use crate::directive::Directive;
 use crate::fault::BlifFault;
 use crate::words::{arguments, first_word};
-use pim_io::{Name, NoMemory};
+use pim_io::{MAX_NAME, Name, NoMemory};
 use std::alloc::Global;
 
 /// The fault of a directive that is not supported, or not where it stands. Constant time.
@@ -18,7 +18,7 @@ fn unsupported(alloc: Global, line: u32, word: &[u8]) -> Result<BlifFault, NoMem
     requires { 0 < length word.now }
     ensures { IfOk result (λ fault. fault ≡ unsupported line word.now) }
 {
-    let name = Name::label(alloc, &word[..word.len().min(4096)])?;
+    let name = Name::label(alloc, &word[..word.len().min(MAX_NAME)])?;
     Ok(BlifFault::Unsupported(line, name))
 }
 

@@ -1,5 +1,5 @@
-use Rattle.std.proofs.Common.{◌≡◌, ℕ, List, length, get_or, Some, None, slice_get, refl, ap, ◌∙◌, subst, arith}
-use Rattle.std.proofs.lemmas.Option.{slice_get_read, slice_get_past}
+use Rattle.std.proofs.Common.{◌≡◌, ◌<◌, ℕ, List, All, length, get_or, Some, slice_get, refl, ap, ◌∙◌, subst, arith}
+use Rattle.std.proofs.lemmas.Option.{slice_get_read}
 use Rattle.std.proofs.lemmas.Result.{err_from_is_err_and}
 use Rattle.pim_net.specs.declared.parts.Equation.{Equation}
 use Rattle.pim_aig.specs.Chains.{literals_of}
@@ -7,19 +7,9 @@ use Rattle.pim_aig.specs.Flat.{equations_from}
 use Rattle.pim_aig.proofs.TableSteps.{equations_step, equations_fault}
 use Rattle.pim_aig.proofs.flattening.equations.Goals as goal
 
-pub loop-k-preserved-then-k-equations : goal.loop-k-preserved-then-k-equations
-loop-k-preserved-then-k-equations c =
-    let topo = c.topo-k-items.result.now in
-    let k = get_or topo c.loop-k.k-index 0 in
-    let P : List Equation → Type 0 = λ es. slice_get es k ≡ None in
-    let at : slice_get c.args.net.now.equations k ≡ None = subst P c.equations-equations.ensures.equations (slice_get_past c.equations-equations.result.now k c.if-k-equations.true) in
-    let old = c.loop-k.aig in
-    record {
-      rest = equations_step old.inputs old.inputs c.args.net.now.equations c.loop-k.table.items c.loop-k.table.items old.ands old.ands topo c.loop-k.k-index None _ c.loop-k-test.true at refl refl c.loop-k.invariant.rest;
-      len = c.loop-k.invariant.len;
-      there = c.loop-k.invariant.there;
-      grown = c.loop-k.invariant.grown;
-    }
+-- an order names equations that are there
+within : (es read : List Equation) (topo : List ℕ) (i : ℕ) → read ≡ es → All (λ k. k < length es) topo → i < length topo → get_or topo i 0 < length read
+within es read topo i same all h = omega (arith, ap length same, all i 0 h)
 
 pub returns-in_err-equation-clause-fault : goal.returns-in_err-equation-clause-fault
 returns-in_err-equation-clause-fault c =
@@ -28,7 +18,7 @@ returns-in_err-equation-clause-fault c =
     let k = get_or topo c.loop-k.k-index 0 in
     let e = c.index-equations-k.result in
     let P : List Equation → Type 0 = λ es. slice_get es k ≡ Some e in
-    let at : slice_get c.args.net.now.equations k ≡ Some e = subst P c.equations-equations.ensures.equations (slice_get_read c.equations-equations.result.now (length c.equations-equations.result.now) k e refl c.if-k-equations.false c.index-equations-k.is) in
+    let at : slice_get c.args.net.now.equations k ≡ Some e = subst P c.equations-equations.ensures.equations (slice_get_read c.equations-equations.result.now (length c.equations-equations.result.now) k e refl (within c.args.net.now.equations c.equations-equations.result.now topo c.loop-k.k-index c.equations-equations.ensures.equations c.topo-k-items.ensures.within c.loop-k-test.true) c.index-equations-k.is) in
     let old = c.loop-k.aig in
     let start = c.args.aig.now in
     let lits = literals_of c.args.table.now.items in
@@ -41,12 +31,12 @@ loop-k-preserved c =
     let k = get_or topo c.loop-k.k-index 0 in
     let e = c.index-equations-k.result in
     let P : List Equation → Type 0 = λ es. slice_get es k ≡ Some e in
-    let at : slice_get c.args.net.now.equations k ≡ Some e = subst P c.equations-equations.ensures.equations (slice_get_read c.equations-equations.result.now (length c.equations-equations.result.now) k e refl c.if-k-equations.false c.index-equations-k.is) in
+    let at : slice_get c.args.net.now.equations k ≡ Some e = subst P c.equations-equations.ensures.equations (slice_get_read c.equations-equations.result.now (length c.equations-equations.result.now) k e refl (within c.args.net.now.equations c.equations-equations.result.now topo c.loop-k.k-index c.equations-equations.ensures.equations c.topo-k-items.ensures.within c.loop-k-test.true) c.index-equations-k.is) in
     let old = c.loop-k.aig in
     let new = c.equation.new.aig in
     record {
       rest = equations_step old.inputs new.inputs c.args.net.now.equations c.loop-k.table.items c.equation.new.table.items old.ands new.ands topo c.loop-k.k-index (Some e) _ c.loop-k-test.true at c.equation.ensures.grown.inputs_stay c.in_ok-equation.ensures.made c.loop-k.invariant.rest;
-      len = c.equation.ensures.len;
+      len = c.equation.ensures.len ∙ c.loop-k.invariant.len;
       there = c.in_ok-equation.ensures.there;
       grown = grind arith;
     }

@@ -7,7 +7,7 @@ use Rattle.pim_aig.proofs.flattening.equations.Given as goal
 abbrev pub invariant-loop-k : goal.invariant-loop-k
 invariant-loop-k l = record {
   rest : equations_from l.aig.inputs l.net.equations (literals_of l.table.items) l.aig.ands (drop l.k-index l.k-items) ≡ equations_from l.initial.aig.inputs l.net.equations (literals_of l.initial.table.items) l.initial.aig.ands l.k-items;
-  len : vec_len l.table ≡ 1048576;
+  len : vec_len l.table ≡ vec_len l.initial.table;
   there : All (IsOfFirst (nodes l.aig)) l.table.items;
   grown : Grows l.initial.aig l.aig;
 }

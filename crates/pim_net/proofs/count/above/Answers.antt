@@ -14,6 +14,7 @@ signals-preserved c =
           (All-weaker (λ s. s < c.signals.count) (λ s. s < n) (λ s h. omega arith) (take i xs) c.signals.invariant.below)
           (omega arith);
       small = let fits = c.type_inv.signals i in omega (arith, c.signals.invariant.small, fits);
+      least = λ m h. omega (arith, c.signals.invariant.least m h, h i 0 c.signals-test.true);
     }
 
 pub returns-clause-below : goal.returns-clause-below

@@ -1,17 +1,21 @@
-use Rattle.std.proofs.Common.{◌+◌, ◌<◌, ℕ, List, length, get_or, ap, sym, ◌∙◌, subst, inr}
+use Rattle.std.proofs.Common.{◌≡◌, ◌+◌, ◌<◌, ℕ, List, length, get_or, ap, sym, ◌∙◌, subst, inr}
 use Rattle.std.specs.Prelude.{find, IsPermutation}
 use Rattle.std.specs.List.{range_with_len}
 use Rattle.std.proofs.lemmas.Result.{err_from_is_err_and}
+use Rattle.pim_net.specs.Cycles.{IsCycle}
 use Rattle.pim_net.specs.Drivers.{read, is_nobody}
 use Rattle.pim_net.specs.Tables.{drivers_of}
-use Rattle.pim_net.specs.Walks.{IsWired, IsLevelled, IsBefore, IsCycle}
+use Rattle.pim_net.specs.Walks.{IsWired, IsLevelled, IsBefore, IsCycleFault}
 use Rattle.pim_net.specs.declared.driver.Driver.{Driver}
+use Rattle.pim_net.specs.declared.fault.NetFault.{NetFault}
+use Rattle.pim_net.specs.declared.fault.NetFault.TheVariants.{Twice, Undriven, Cycle, NoMemory}
+use Rattle.pim_net.specs.declared.parts.Equation.{Equation}
 use Rattle.pim_net.specs.declared.mark.Mark.{Mark}
 use Rattle.pim_net.proofs.Wiring.{wired, well_formed, sound, lacking, refused, by_depth, ready}
 use Rattle.pim_net.proofs.judge.judge.Goals as goal
 
-pub returns-in-Some : goal.returns-in-Some
-returns-in-Some c =
+pub returns-in-Some-clause-judged : goal.returns-in-Some-clause-judged
+returns-in-Some-clause-judged c =
     let es = c.args.equations.now in
     let outputs = c.args.outputs.now in
     let table = c.in_ok-table.table.items in
@@ -27,18 +31,30 @@ levels-requires c =
     subst (IsWired es) (sym c.as_slice-2.ensures.value)
     (wired c.args.inputs.now es outputs table c.signal_count-size.result (c.in_ok-table.ensures).0 (c.in_ok-table.ensures).1 (c.in_ok-table.ensures).2 c.signal_count-size.ensures.columns all c.requires.equations_few c.requires.columns_few)
 
-pub returns-in_err-marks : goal.returns-in_err-marks
-returns-in_err-marks c =
+pub returns-in_err-marks-clause-judged : goal.returns-in_err-marks-clause-judged
+returns-in_err-marks-clause-judged c =
     let es = c.args.equations.now in
     let outputs = c.args.outputs.now in
     let table = c.in_ok-table.table.items in
     let all = ap (λ (t : List Driver). find (λ s. is_nobody (drivers_of t s)) (read es outputs)) (sym c.as_slice.ensures.value) ∙ sym c.undriven.ensures ∙ c.in_default.is in
     let p = err_from_is_err_and c.from_residual-in_err-marks.result c.from_residual-in_err-marks.ensures.1 in
-    let cycle = subst (λ (t : List Driver). IsCycle es t c.in_err-marks.field-0.0) c.as_slice-2.ensures.value c.in_err-marks.ensures in
+    let cycle = subst (λ (t : List Driver). IsCycleFault es t c.in_err-marks.field-0.0) c.as_slice-2.ensures.value c.in_err-marks.ensures in
     rw (p.1, p.2) (refused c.args.inputs.now es outputs table c.in_err-marks.field-0.0 (c.in_ok-table.ensures).0 (c.in_ok-table.ensures).2 all cycle)
 
-pub returns : goal.returns
-returns c =
+-- the list of a fault for a cycle is a cycle
+cycle_fault : (es : List Equation) (table : List Driver) (fault : NetFault) → IsCycleFault es table fault → (signals : List ℕ) → fault ≡ Cycle signals → IsCycle es signals
+cycle_fault es table (Twice s) h signals is = absurd h
+cycle_fault es table (Undriven s) h signals is = absurd h
+cycle_fault es table (Cycle cycle) h signals is = subst (IsCycle es) (let e : cycle ≡ signals = cc in e) h.1
+cycle_fault es table NoMemory h signals is = cc
+
+pub returns-in_err-marks-clause-cycle : goal.returns-in_err-marks-clause-cycle
+returns-in_err-marks-clause-cycle c =
+    let p = err_from_is_err_and c.from_residual-in_err-marks.result c.from_residual-in_err-marks.ensures.1 in
+    rw (p.1, p.2) (cycle_fault c.args.equations.now c.as_slice-2.result.now c.in_err-marks.field-0.0 c.in_err-marks.ensures)
+
+pub returns-clause-judged : goal.returns-clause-judged
+returns-clause-judged c =
     let inputs = c.args.inputs.now in
     let es = c.args.equations.now in
     let outputs = c.args.outputs.now in

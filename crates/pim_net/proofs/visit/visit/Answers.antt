@@ -2,9 +2,11 @@ use Rattle.std.proofs.Common.{◌≡◌, ◌+◌, ◌<◌, ◌≤◌, ◌++◌, 
 use Rattle.std.specs.Prelude.{reverse, count_by}
 use Rattle.std.proofs.lemmas.List.{reverse-append, nil_from_length, length-reverse, length_push}
 use Rattle.pim_net.specs.Walks.{ins, mark, is_new, column_of, marked_depth, IsTrail, IsMarked}
+use Rattle.pim_net.specs.Cycles.{IsCycle}
 use Rattle.pim_net.specs.Tables.{drivers_of}
 use Rattle.pim_net.specs.declared.mark.Mark.TheVariants.{New, Open, Deep}
 use Rattle.pim_net.specs.declared.mark.Frame.{Frame}
+use Rattle.pim_net.proofs.Rounds.{round_is_cycle}
 use Rattle.pim_net.proofs.Trails.{known_all, walk_round}
 use Rattle.pim_net.proofs.Marking.{marks_into, trail_into, marks_done, marked_is, trail_past, marks_past, stays_old, fewer_new, smaller_into}
 use Rattle.pim_net.proofs.visit.visit.Goals as goal
@@ -121,4 +123,5 @@ returns-in-Round-clause-round c =
     let w = c.requires.wired.covers (column_of es c.walk.at) k (c.in-Round.ensures).1 in
     let short : suc (length (reverse c.walk.path.items)) ≤ length es = omega (arith, c.walk.invariant.marked.counted) in
     let r = walk_round es c.args.table.now c.args.root k c.walk.at (reverse c.walk.path.items) c.requires.wired c.walk.invariant.trail among (c.in-Round.ensures).0 (sym w.1) short in
-    (r.0, r.1 ∙ sym c.in_ok-cycle-in-Round.ensures)
+    let cycle = round_is_cycle es c.args.table.now c.args.root k c.walk.at (reverse c.walk.path.items) c.walk.invariant.trail among (c.in-Round.ensures).0 (sym w.1) in
+    (r.0, r.1 ∙ sym c.in_ok-cycle-in-Round.ensures, subst (IsCycle es) (sym c.in_ok-cycle-in-Round.ensures) cycle)

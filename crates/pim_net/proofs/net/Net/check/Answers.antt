@@ -1,5 +1,6 @@
 use Rattle.std.proofs.Common.{◌≡◌, ℕ, List, Some, None, subst, ap, sym, ◌∙◌, ⊎_elim}
 use Rattle.std.proofs.lemmas.Result.{err_from_is_err_and}
+use Rattle.pim_net.specs.Cycles.{IsCycle}
 use Rattle.pim_net.specs.Faults.{IsRefusal, fault_of}
 use Rattle.pim_net.specs.declared.fault.NetFault.{NetFault}
 use Rattle.pim_net.specs.declared.fault.NetFault.TheVariants.{NoMemory}
@@ -24,13 +25,13 @@ pub invariant_of-result : goal.invariant_of-result
 invariant_of-result c =
     let d = c.draft.inside in
     net_is d.inputs.items c.as_slice.result.now d.equations.items c.as_slice-2.result.now d.outputs.items c.as_slice-3.result.now d.input_labels d.output_labels c.in_ok-topo.topo.items
-    c.as_slice.ensures.value c.as_slice-2.ensures.value c.as_slice-3.ensures.value c.draft.invariant c.in_ok-topo.ensures
+    c.as_slice.ensures.value c.as_slice-2.ensures.value c.as_slice-3.ensures.value c.draft.invariant c.in_ok-topo.ensures.judged
 
 pub returns-clause-checked : goal.returns-clause-checked
 returns-clause-checked c =
     let d = c.draft.inside in
     net_is d.inputs.items c.as_slice.result.now d.equations.items c.as_slice-2.result.now d.outputs.items c.as_slice-3.result.now d.input_labels d.output_labels c.in_ok-topo.topo.items
-    c.as_slice.ensures.value c.as_slice-2.ensures.value c.as_slice-3.ensures.value c.draft.invariant c.in_ok-topo.ensures
+    c.as_slice.ensures.value c.as_slice-2.ensures.value c.as_slice-3.ensures.value c.draft.invariant c.in_ok-topo.ensures.judged
 
 -- a well-formed draft is refused for want of memory alone
 only_memory : (inputs inputs' : List ℕ) (es es' : List Equation) (outputs outputs' : List OutRef) (fault : NetFault) → inputs' ≡ inputs → es' ≡ es → outputs' ≡ outputs → IsWellFormed inputs es outputs → IsRefusal inputs' es' outputs' fault → fault ≡ NoMemory
@@ -51,4 +52,10 @@ returns-in_err-topo-clause-exact c = λ formed.
     (c.as_slice.ensures.value ∙ ap (λ (v : DraftView). v.inputs) c.draft.view_is)
     (c.as_slice-2.ensures.value ∙ ap (λ (v : DraftView). v.equations) c.draft.view_is)
     (c.as_slice-3.ensures.value ∙ ap (λ (v : DraftView). v.outputs) c.draft.view_is)
-    formed c.in_err-topo.ensures)
+    formed c.in_err-topo.ensures.judged)
+
+pub returns-in_err-topo-clause-cycle : goal.returns-in_err-topo-clause-cycle
+returns-in_err-topo-clause-cycle c =
+    let p = err_from_is_err_and c.from_residual.result c.from_residual.ensures.1 in
+    let same = c.as_slice-2.ensures.value ∙ ap (λ (v : DraftView). v.equations) c.draft.view_is in
+    rw (p.1, p.2) (λ signals is. subst (λ (es : List Equation). IsCycle es signals) same (c.in_err-topo.ensures.cycle signals is))
