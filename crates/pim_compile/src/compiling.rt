@@ -1,7 +1,12 @@
 ghost use Rattle.std.specs.Prelude.{◌≡◌, ◌<◌, ◌≤◌, ◌+◌, [], ◌++◌, length, take, IfErr, IfOk, OnOk};
+ghost use Rattle.pim_aig.specs.Flat.{flat};
 ghost use Rattle.pim_isa.specs.Primed.{IsPrimed};
+ghost use Rattle.pim_nor.specs.Lowered.{nors};
+ghost use Rattle.pim_nor.specs.Network.{nor_count};
+ghost use Rattle.pim_nor.specs.declared.lowering.Width.TheVariants.{Two};
 ghost use Rattle.pim_compile.specs.Computes.{Computes};
-ghost use Rattle.pim_compile.specs.Refusals.{IsAccepted, IsRefusal};
+ghost use Rattle.pim_compile.specs.Refusals.{IsAccepted, IsRefusal, wide_need};
+ghost use Rattle.pim_compile.specs.Programs.{wide_program};
 ghost use Rattle.pim_isa.specs.declared.target.Target.TheVariants as Isa;
 ghost use Rattle.pim_isa.specs.declared.draft.TheConstants.{MAX_CELLS};
 
@@ -45,6 +50,15 @@ pub fn compile(
     ensures refused { IfErr result (IsRefusal net.now budget) }
     ensures computes { IfOk result (λ program. Computes program net.now) }
     ensures target { IfOk result (λ program. program.target ≡ Isa.Magic) }
+
+    // The program depends on the netlist alone.
+    ensures wide { IfOk result (λ program. program ≡ wide_program net.now) }
+
+    // It has the cells that are needed, and no others.
+    ensures size { IfOk result (λ program. program.cells ≡ wide_need net.now) }
+
+    // A cycle for each NOR and NOT, and one more for an Init.
+    ensures cycles { IfOk result (λ program. length program.instrs ≤ nor_count (nors (flat net.now) Two).gates + 1) }
 {
     match (target, level) {
         (Target::Magic, Level::Zero) => magic(alloc, net, budget),
@@ -60,6 +74,15 @@ fn magic(alloc: Global, net: &Net, budget: u32) -> Result<Program, Refusal>
     ensures refused { IfErr result (IsRefusal net.now budget) }
     ensures computes { IfOk result (λ program. Computes program net.now) }
     ensures target { IfOk result (λ program. program.target ≡ Isa.Magic) }
+
+    // The program depends on the netlist alone.
+    ensures wide { IfOk result (λ program. program ≡ wide_program net.now) }
+
+    // It has the cells that are needed, and no others.
+    ensures size { IfOk result (λ program. program.cells ≡ wide_need net.now) }
+
+    // A cycle for each NOR and NOT, and one more for an Init.
+    ensures cycles { IfOk result (λ program. length program.instrs ≤ nor_count (nors (flat net.now) Two).gates + 1) }
 {
     let aig = match flatten(alloc, net) {
         Ok(aig) => aig,

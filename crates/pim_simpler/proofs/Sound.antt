@@ -1,6 +1,7 @@
 -- The wide schedule of a network has no fault: each gate reads inputs and gates before it, whose cells are below its own.
-use Rattle.std.proofs.Common.{◌≡◌, ℕ, ◌+◌, ◌^◌, ◌<◌, ◌≤◌, true, false, List, [], ◌∷◌, ◌++◌, length, map, refl, arith, None, get_or, suc, subst, nat_le, ◌||◌}
+use Rattle.std.proofs.Common.{◌≡◌, ℕ, ◌+◌, ◌^◌, ◌<◌, ◌≤◌, true, false, List, [], ◌∷◌, ◌++◌, length, map, refl, arith, None, get_or, suc, subst, nat_le, ◌||◌, cond}
 use Rattle.std.proofs.lemmas.Bool.Decides.{nat_tests}
+use Rattle.std.proofs.lemmas.List.Sums.{count_by-le-length, sum_by-cons}
 use Rattle.pim_isa.specs.declared.target.Target.TheVariants.{Magic}
 use Rattle.pim_isa.specs.declared.instr.Ins.{Ins}
 use Rattle.pim_isa.specs.declared.instr.Ins.TheVariants as ins
@@ -9,7 +10,7 @@ use Rattle.pim_isa.specs.declared.instr.Instr.TheVariants as instr
 use Rattle.pim_isa.specs.Programs.{PortsView}
 use Rattle.pim_isa.specs.Touches.{operands}
 use Rattle.pim_isa.specs.Validity.{has, leaves, rises_above, is_rising, instr_fault, first_instr_fault, bad_input, bad_output, fault_of}
-use Rattle.pim_nor.specs.Network.{NorView, IsNetwork, IsOfFirst, AreOfFirst, ReadsFirst, pins}
+use Rattle.pim_nor.specs.Network.{NorView, IsNetwork, IsOfFirst, AreOfFirst, ReadsFirst, pins, is_nor, nor_count}
 use Rattle.pim_nor.specs.declared.network.Pin.{Pin}
 use Rattle.pim_nor.specs.declared.network.Pin.TheVariants.{Input, Gate as Place}
 use Rattle.pim_nor.specs.declared.network.Gate.{Gate}
@@ -191,15 +192,29 @@ length-output_ports inputs [] labels = omega arith
 length-output_ports inputs (o ∷ os) [] = omega arith
 length-output_ports inputs (o ∷ os) (l ∷ ls) = omega (arith, length-output_ports inputs os ls)
 
-length-gate_instrs : (inputs t : ℕ) (gs : List Gate) → length (gate_instrs inputs t gs) ≤ length gs
-length-gate_instrs inputs t [] = omega arith
-length-gate_instrs inputs t (One ∷ gs) = omega (arith, length-gate_instrs inputs (t + 1) gs)
-length-gate_instrs inputs t (Not a ∷ gs) = omega (arith, length-gate_instrs inputs (t + 1) gs)
-length-gate_instrs inputs t (Nor a b ∷ gs) = omega (arith, length-gate_instrs inputs (t + 1) gs)
-length-gate_instrs inputs t (Nor3 a b c ∷ gs) = omega (arith, length-gate_instrs inputs (t + 1) gs)
-length-gate_instrs inputs t (Nor4 a b c d ∷ gs) = omega (arith, length-gate_instrs inputs (t + 1) gs)
+nor_count-cons : (g : Gate) (gs : List Gate) → nor_count (g ∷ gs) ≡ cond (is_nor g) 1 0 + nor_count gs
+nor_count-cons g gs = sum_by-cons (λ (d : Gate). cond (is_nor d) 1 0) g gs
 
-length-wide : (inputs : ℕ) (gs : List Gate) → length (init_of inputs gs ++ gate_instrs inputs inputs gs) ≤ length gs + 1
+-- a gate that reads something takes an instruction, and a gate that is one takes none
+length-gate_instrs : (inputs t : ℕ) (gs : List Gate) → length (gate_instrs inputs t gs) ≡ nor_count gs
+length-gate_instrs inputs t [] = refl
+length-gate_instrs inputs t (One ∷ gs) =
+    let more : nor_count (One ∷ gs) ≡ 0 + nor_count gs = nor_count-cons One gs in
+    omega (arith, length-gate_instrs inputs (t + 1) gs)
+length-gate_instrs inputs t (Not a ∷ gs) =
+    let more : nor_count (Not a ∷ gs) ≡ 1 + nor_count gs = nor_count-cons (Not a) gs in
+    omega (arith, length-gate_instrs inputs (t + 1) gs)
+length-gate_instrs inputs t (Nor a b ∷ gs) =
+    let more : nor_count (Nor a b ∷ gs) ≡ 1 + nor_count gs = nor_count-cons (Nor a b) gs in
+    omega (arith, length-gate_instrs inputs (t + 1) gs)
+length-gate_instrs inputs t (Nor3 a b c ∷ gs) =
+    let more : nor_count (Nor3 a b c ∷ gs) ≡ 1 + nor_count gs = nor_count-cons (Nor3 a b c) gs in
+    omega (arith, length-gate_instrs inputs (t + 1) gs)
+length-gate_instrs inputs t (Nor4 a b c d ∷ gs) =
+    let more : nor_count (Nor4 a b c d ∷ gs) ≡ 1 + nor_count gs = nor_count-cons (Nor4 a b c d) gs in
+    omega (arith, length-gate_instrs inputs (t + 1) gs)
+
+pub length-wide : (inputs : ℕ) (gs : List Gate) → length (init_of inputs gs ++ gate_instrs inputs inputs gs) ≤ nor_count gs + 1
 length-wide inputs [] = omega arith
 length-wide inputs (g ∷ gs) = omega (arith, length-gate_instrs inputs inputs (g ∷ gs))
 
@@ -212,4 +227,4 @@ few-ports n ports net e =
 pub few-instrs : (n : NorView) (ports : PortsView) → IsNetwork n → length (wide n ports).instrs < 2 ^ 28
 few-instrs n ports net =
     let small : length n.gates ≤ 3145730 = net.gates_fit in
-    omega (arith, length-wide n.inputs n.gates)
+    omega (arith, length-wide n.inputs n.gates, count_by-le-length is_nor n.gates)

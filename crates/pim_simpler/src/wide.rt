@@ -1,5 +1,5 @@
 ghost use Rattle.std.specs.Prelude.{◌≡◌, ◌+◌, ◌^◌, ◌<◌, ◌≤◌, [], ◌∷◌, ◌++◌, length, IfOk, IfErr, OnOk};
-ghost use Rattle.pim_nor.specs.Network.{IsNetwork, pins};
+ghost use Rattle.pim_nor.specs.Network.{IsNetwork, nor_count, pins};
 ghost use Rattle.pim_isa.specs.PortLists.{input_ports, labels_of};
 ghost use Rattle.pim_isa.specs.Primed.{IsPrimed};
 ghost use Rattle.pim_simpler.specs.Means.{Means, IsRefusal};
@@ -24,6 +24,15 @@ pub fn schedule(alloc: Global, net: &NorNet, ports: &Ports, budget: u32) -> Resu
     ensures cells { IfOk result (λ program. program.cells ≤ budget) }
     ensures inputs { IfOk result (λ program. program.inputs ≡ input_ports 0 ports.now.inputs) }
     ensures labels { IfOk result (λ program. labels_of program.outputs ≡ ports.now.outputs) }
+
+    // The program is the wide one, whatever the budget.
+    ensures wide { IfOk result (λ program. program ≡ wide net.now ports.now) }
+
+    // Each input and each gate has a cell, and there are no others.
+    ensures size { IfOk result (λ program. program.cells ≡ net.now.inputs + length net.now.gates) }
+
+    // A cycle for each NOR and NOT, and one more for an Init.
+    ensures cycles { IfOk result (λ program. length program.instrs ≤ nor_count net.now.gates + 1) }
 
     // Too few cells are exactly those below the inputs and the gates.
     ensures accepted { OnOk result (net.now.inputs + length net.now.gates ≤ budget) }

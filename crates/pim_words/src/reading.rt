@@ -3,6 +3,7 @@ ghost use Rattle.std.specs.Prelude.{◌≡◌, IfOk, MatchResult, OnOk, false, m
 ghost use Rattle.std.specs.String.{string_bytes};
 ghost use Rattle.pim_words.specs.declared.command.Command.{Command};
 ghost use Rattle.pim_words.specs.Plain.{IsPlain};
+ghost use Rattle.pim_words.specs.Program.{lacks_program};
 ghost use Rattle.pim_words.specs.Reading.{IsWithin, command_said, is_usage, names_command};
 
 use crate::compiling::read_compile;
@@ -18,11 +19,13 @@ use std::alloc::Global;
 /// where the file is missing, or where `clap` refuses the others for another cause than memory, a
 /// wish for help among these. The file is the second word, whatever it begins with, and `clap`
 /// does not read it. That memory was wanting is claimed nowhere: `NoMemory` may come wherever a
-/// command is named.
+/// command is named and has its file, where it takes one.
 pub fn read(alloc: Global, words: &[String]) -> Result<Command, WordsFault>
     ensures usage { result ≡ Err WordsFault.Usage → is_usage (map string_bytes words.now) ≡ true }
     ensures accepted { OnOk result (is_usage (map string_bytes words.now) ≡ false) }
     ensures unknown { names_command (map string_bytes words.now) ≡ false
+        → result ≡ Err WordsFault.Usage }
+    ensures missing { lacks_program (map string_bytes words.now) ≡ true
         → result ≡ Err WordsFault.Usage }
     ensures plain { (c : Command) → IsPlain c (map string_bytes words.now)
         → MatchResult result (λ r. r ≡ c) (λ e. e ≡ WordsFault.NoMemory) }

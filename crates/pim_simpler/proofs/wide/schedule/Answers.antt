@@ -1,11 +1,12 @@
-use Rattle.std.proofs.Common.{◌≡◌, ◌∙◌, ap, sym, subst, false, Some, None}
+use Rattle.std.proofs.Common.{◌≡◌, ◌+◌, ◌≤◌, ◌∙◌, length, ap, sym, subst, false, Some, None}
 use Rattle.pim_isa.specs.Primed.{IsPrimedFrom}
 use Rattle.pim_isa.specs.Programs.{ProgramView}
 use Rattle.pim_isa.specs.Validity.{fault_of}
+use Rattle.pim_nor.specs.Network.{nor_count}
 use Rattle.pim_simpler.specs.Means.{Means}
 use Rattle.pim_isa.specs.PortLists.{labels_of}
 use Rattle.pim_simpler.specs.Wide.{wide}
-use Rattle.pim_simpler.proofs.Sound.{wide-sound, few-ports, few-instrs}
+use Rattle.pim_simpler.proofs.Sound.{wide-sound, few-ports, few-instrs, length-wide}
 use Rattle.pim_simpler.proofs.Ready.{instrs-ready}
 use Rattle.pim_simpler.proofs.Whole.{wide-means, labels-kept}
 use Rattle.pim_simpler.proofs.wide.schedule.Goals as goal
@@ -41,3 +42,9 @@ returns-in-Ok-new-clause-labels c =
     let is : c.in-Ok-new.program ≡ wide c.args.net.now c.args.ports.now = c.in-Ok-new.ensures.program ∙ c.in-Ok.ensures in
     ap (λ (p : ProgramView). labels_of p.outputs) is
     ∙ labels-kept c.args.net.now.inputs c.args.net.now.outs c.args.ports.now.outputs c.requires.outputs
+
+pub returns-in-Ok-new-clause-cycles : goal.returns-in-Ok-new-clause-cycles
+returns-in-Ok-new-clause-cycles c =
+    let is : c.in-Ok-new.program ≡ wide c.args.net.now c.args.ports.now = c.in-Ok-new.ensures.program ∙ c.in-Ok.ensures in
+    let F : ProgramView → Type 0 = λ p. length p.instrs ≤ nor_count c.args.net.now.gates + 1 in
+    subst F (sym is) (length-wide c.args.net.now.inputs c.args.net.now.gates)
