@@ -1,12 +1,9 @@
 //! Every fault of an ASCII AIGER file once, with its note, and the names that symbols give.
-use crate::case::{AND_PROGRAM, Case, check, words_of};
-use pim_io::{MemSink, MemSource};
-use pim_top::{Status, pim};
+use crate::case::{AND_PROGRAM, Case, FIVE, call, check, stops};
+use pim_top::Status;
 use std::alloc::Global;
 use std::process::Abort;
 use std::test::Fail;
-
-const FIVE: &[&str] = &["compile", "--target", "magic", "--cells", "5"];
 
 #[test]
 fn symbols_name_the_ports(rt: HostRuntime) -> Result<(), Fail> {
@@ -252,26 +249,11 @@ fn named_buffer(alloc: Global, letters: usize) -> Result<Vec<u8>, Fail> {
 #[test]
 fn the_length_of_a_name_is_judged(rt: HostRuntime) -> Result<(), Fail> {
     let alloc = rt.alloc();
-    for (letters, status) in [(4_096, Status::Done), (4_097, Status::TooLarge)] {
-        let words = words_of(alloc, FIVE)?;
-        let bytes = named_buffer(alloc, letters)?;
-        let mut program = MemSource::new(alloc, b"", 1, &[])?;
-        let mut input = MemSource::new(alloc, &bytes, 4_096, &[])?;
-        let mut output = MemSink::new(alloc, 65_536, 4_096, &[])?;
-        let mut notes = MemSink::new(alloc, 4_096, 4_096, &[])?;
-        let answer = pim(
-            alloc,
-            &words,
-            &mut program,
-            &mut input,
-            &mut output,
-            &mut notes,
-        );
-        assert_eq!(rt; answer, status, "at {letters} letters");
-        if answer == Status::TooLarge {
-            assert_eq!(rt; output.bytes(), b"".as_slice());
-            assert_eq!(rt; notes.bytes(), b"pim: too large: name\n".as_slice());
-        }
-    }
-    Ok(())
+    let longest = named_buffer(alloc, 4_096)?;
+    let ending = call(alloc, FIVE, &longest, 4_096)?;
+    assert_eq!(rt; ending.status, Status::Done);
+    let longer = named_buffer(alloc, 4_097)?;
+    let ending = call(alloc, FIVE, &longer, 4_096)?;
+    let text = "too large: name";
+    stops(&rt, alloc, &ending, Status::TooLarge, b"", text)
 }
