@@ -1,5 +1,6 @@
-//! `run` from end to end: programs on vectors, files and lines that are refused, and sources and sinks that fail.
+//! `run` from end to end: programs on vectors, files and lines that are refused, limits, and sources and sinks that fail.
 mod files;
+mod limits;
 mod outside;
 mod vectors;
 mod words;
