@@ -1,5 +1,5 @@
 //! Every fault of an ASCII AIGER file once, with its note, and the names that symbols give.
-use crate::case::{AND_PROGRAM, Case, FIVE, call, check, stops};
+use crate::case::{AND_PROGRAM, BINARY_AND, Case, FIVE, call, check, stops};
 use pim_top::Status;
 use std::alloc::Global;
 use std::process::Abort;
@@ -192,7 +192,20 @@ fn limits_are_judged(rt: HostRuntime) -> Result<(), Fail> {
     )
 }
 
-/// The AND in the binary form: its 18 bytes, the cut before the last, and codes and headers that are refused.
+/// However the 18 bytes of the AND are cut behind the tag, they are truncated where they end.
+#[test]
+fn cuts_of_the_binary_form(rt: HostRuntime) -> Result<(), Fail> {
+    let alloc = rt.alloc();
+    for len in 4..18usize {
+        let cut = BINARY_AND.get(..len).ok_or("a shorter file")?;
+        let ending = call(alloc, FIVE, cut, 7)?;
+        let text = format!(in alloc; "bad input: aiger truncated at byte {len}")?;
+        stops(&rt, alloc, &ending, Status::BadInput, b"", &text)?;
+    }
+    Ok(())
+}
+
+/// The AND in the binary form, and codes and headers that are refused.
 #[test]
 fn the_binary_form(rt: HostRuntime) -> Result<(), Fail> {
     check(
@@ -200,17 +213,13 @@ fn the_binary_form(rt: HostRuntime) -> Result<(), Fail> {
         rt.alloc(),
         &Case {
             words: FIVE,
-            input: b"aig 3 2 0 1 1\n6\n\x02\x02",
+            input: BINARY_AND,
             status: Status::Done,
             output: AND_PROGRAM,
             note: b"",
         },
     )?;
-    let faults: [(&'static [u8], &'static [u8]); 4] = [
-        (
-            b"aig 3 2 0 1 1\n6\n\x02",
-            b"pim: bad input: aiger truncated at byte 17\n",
-        ),
+    let faults: [(&'static [u8], &'static [u8]); 3] = [
         (
             b"aig 3 2 0 1 1\n6\n\x00\x02",
             b"pim: bad input: aiger delta at byte 16\n",

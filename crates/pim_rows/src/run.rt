@@ -26,7 +26,7 @@ fn run_over<P: Source, S: Source>(
 }
 
 /// Runs a program on vectors, with room for so many bytes.
-fn run_on(
+pub fn run_on(
     alloc: Global,
     filling: &str,
     program: &[u8],
@@ -40,7 +40,7 @@ fn run_on(
 }
 
 /// The same bytes so many times.
-fn repeated(alloc: Global, piece: &[u8], times: usize) -> Result<Vec<u8>, Fail> {
+pub fn repeated(alloc: Global, piece: &[u8], times: usize) -> Result<Vec<u8>, Fail> {
     let mut bytes = Vec::new(alloc);
     for _ in 0..times {
         bytes.extend_from_slice(piece)?;
