@@ -2,6 +2,7 @@
 """Writes the inputs of the benchmarks into a folder: inputs.py FOLDER. The same bytes at every call.
 
 program.pim         10,000 MAGIC instructions for 1,024 cells, 32 inputs, 32 outputs
+long.pim            the same instructions again and again, 100 MB of them
 vectors.262144      that many lines of 32 characters 0 or 1
 vectors.1000000
 gates.aig           1,000,000 AND gates of 64 inputs, as binary AIGER
@@ -15,6 +16,7 @@ CELLS = 1024
 PORTS = 32
 CYCLES = 10_000
 AT_ONCE = 16
+LONG = 100_000_000
 GATES = 1_000_000
 GATE_INPUTS = 64
 
@@ -46,14 +48,20 @@ def instructions(rng):
     return lines, known[-PORTS:]
 
 
-def write_program(path):
+def write_program(path, size):
+    """Writes the instructions as often as it takes for so many bytes."""
     lines, outputs = instructions(random.Random(1))
+    body = "\n".join(lines) + "\n"
+    times = -(-size // len(body))
     head = ["pim 1", "target magic", f"cells {CELLS}"]
     head += [f"input {k} i{k}" for k in range(PORTS)]
     head += [f"output {cell} o{k}" for k, cell in enumerate(outputs)]
-    head += [f"cycles {len(lines)}"]
+    head += [f"cycles {times * len(lines)}"]
     with open(path, "w") as file:
-        file.write("\n".join(head + lines + ["end"]) + "\n")
+        file.write("\n".join(head) + "\n")
+        for _ in range(times):
+            file.write(body)
+        file.write("end\n")
 
 
 def write_vectors(path, count):
@@ -113,7 +121,8 @@ def main():
     folder = sys.argv[1]
     os.makedirs(folder, exist_ok=True)
     files = {
-        "program.pim": write_program,
+        "program.pim": lambda path: write_program(path, 1),
+        "long.pim": lambda path: write_program(path, LONG),
         "vectors.262144": lambda path: write_vectors(path, 262_144),
         "vectors.1000000": lambda path: write_vectors(path, 1_000_000),
         "gates.aig": write_aiger,

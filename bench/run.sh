@@ -50,13 +50,15 @@ for _ in $(seq "$repetitions"); do
   timed run-long 0 out/vectors.1000000 out/run.results "$bin" run out/program.pim
   timed lanes64-long 0 out/vectors.1000000 out/lanes64.results out/lanes64 out/program.pim
   cmp out/run.results out/lanes64.results
+  timed long 0 /dev/null out/long.results "$bin" run out/long.pim
+  cmp out/long.results /dev/null
   timed aiger 6 out/gates.aig /dev/null "$bin" compile --target magic --cells 1
   timed blif 6 out/gates.blif /dev/null "$bin" compile --target magic --cells 1
 done
 
 echo "$(nproc) processors, $(sed -n 's/^model name.*: //p' /proc/cpuinfo | head -n 1); $(clang --version | head -n 1); least of $repetitions"
 printf '%-16s %9s %9s %9s\n' '' 'clock s' 'cpu s' 'MB'
-for name in run lanes64 lanes1 run-long lanes64-long aiger blif; do shown "$name"; done
+for name in run lanes64 lanes1 run-long lanes64-long long aiger blif; do shown "$name"; done
 printf '%-32s %9s %9s\n' '' 'clock' 'cpu'
 ratio run lanes64
 ratio run lanes1

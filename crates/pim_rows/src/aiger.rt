@@ -1,12 +1,9 @@
 //! Every fault of an ASCII AIGER file once, with its note, and the names that symbols give.
-use crate::case::{AND_PROGRAM, Case, check, words_of};
-use pim_io::{MemSink, MemSource};
-use pim_top::{Status, pim};
+use crate::case::{AND_PROGRAM, BINARY_AND, Case, FIVE, call, check, stops};
+use pim_top::Status;
 use std::alloc::Global;
 use std::process::Abort;
 use std::test::Fail;
-
-const FIVE: &[&str] = &["compile", "--target", "magic", "--cells", "5"];
 
 #[test]
 fn symbols_name_the_ports(rt: HostRuntime) -> Result<(), Fail> {
@@ -195,7 +192,20 @@ fn limits_are_judged(rt: HostRuntime) -> Result<(), Fail> {
     )
 }
 
-/// The AND in the binary form: its 18 bytes, the cut before the last, and codes and headers that are refused.
+/// However the 18 bytes of the AND are cut behind the tag, they are truncated where they end.
+#[test]
+fn cuts_of_the_binary_form(rt: HostRuntime) -> Result<(), Fail> {
+    let alloc = rt.alloc();
+    for len in 4..18usize {
+        let cut = BINARY_AND.get(..len).ok_or("a shorter file")?;
+        let ending = call(alloc, FIVE, cut, 7)?;
+        let text = format!(in alloc; "bad input: aiger truncated at byte {len}")?;
+        stops(&rt, alloc, &ending, Status::BadInput, b"", &text)?;
+    }
+    Ok(())
+}
+
+/// The AND in the binary form, and codes and headers that are refused.
 #[test]
 fn the_binary_form(rt: HostRuntime) -> Result<(), Fail> {
     check(
@@ -203,17 +213,13 @@ fn the_binary_form(rt: HostRuntime) -> Result<(), Fail> {
         rt.alloc(),
         &Case {
             words: FIVE,
-            input: b"aig 3 2 0 1 1\n6\n\x02\x02",
+            input: BINARY_AND,
             status: Status::Done,
             output: AND_PROGRAM,
             note: b"",
         },
     )?;
-    let faults: [(&'static [u8], &'static [u8]); 4] = [
-        (
-            b"aig 3 2 0 1 1\n6\n\x02",
-            b"pim: bad input: aiger truncated at byte 17\n",
-        ),
+    let faults: [(&'static [u8], &'static [u8]); 3] = [
         (
             b"aig 3 2 0 1 1\n6\n\x00\x02",
             b"pim: bad input: aiger delta at byte 16\n",
@@ -252,26 +258,11 @@ fn named_buffer(alloc: Global, letters: usize) -> Result<Vec<u8>, Fail> {
 #[test]
 fn the_length_of_a_name_is_judged(rt: HostRuntime) -> Result<(), Fail> {
     let alloc = rt.alloc();
-    for (letters, status) in [(4_096, Status::Done), (4_097, Status::TooLarge)] {
-        let words = words_of(alloc, FIVE)?;
-        let bytes = named_buffer(alloc, letters)?;
-        let mut program = MemSource::new(alloc, b"", 1, &[])?;
-        let mut input = MemSource::new(alloc, &bytes, 4_096, &[])?;
-        let mut output = MemSink::new(alloc, 65_536, 4_096, &[])?;
-        let mut notes = MemSink::new(alloc, 4_096, 4_096, &[])?;
-        let answer = pim(
-            alloc,
-            &words,
-            &mut program,
-            &mut input,
-            &mut output,
-            &mut notes,
-        );
-        assert_eq!(rt; answer, status, "at {letters} letters");
-        if answer == Status::TooLarge {
-            assert_eq!(rt; output.bytes(), b"".as_slice());
-            assert_eq!(rt; notes.bytes(), b"pim: too large: name\n".as_slice());
-        }
-    }
-    Ok(())
+    let longest = named_buffer(alloc, 4_096)?;
+    let ending = call(alloc, FIVE, &longest, 4_096)?;
+    assert_eq!(rt; ending.status, Status::Done);
+    let longer = named_buffer(alloc, 4_097)?;
+    let ending = call(alloc, FIVE, &longer, 4_096)?;
+    let text = "too large: name";
+    stops(&rt, alloc, &ending, Status::TooLarge, b"", text)
 }

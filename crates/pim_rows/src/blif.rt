@@ -8,7 +8,7 @@ mod lines;
 mod netlists;
 mod rows;
 
-use crate::case::{Ending, call};
+use crate::case::{Ending, call, gives, stops};
 use pim_top::Status;
 use std::alloc::Global;
 use std::process::Abort;
@@ -35,9 +35,7 @@ fn compiles(
     program: &[u8],
 ) -> Result<(), Fail> {
     let ending = compile(alloc, cells, input, 7)?;
-    assert_eq!(rt; ending.status, Status::Done);
-    assert_eq!(rt; ending.output.as_slice(), program);
-    assert_eq!(rt; ending.notes.as_slice(), b"".as_slice());
+    gives(rt, &ending, program);
     Ok(())
 }
 
@@ -49,11 +47,7 @@ fn refuses(
     status: Status,
     text: &str,
 ) -> Result<(), Fail> {
-    let note = format!(in alloc; "pim: {text}\n")?;
-    assert_eq!(rt; ending.status, status, "where {text} is wanted");
-    assert_eq!(rt; ending.output.as_slice(), b"".as_slice());
-    assert_eq!(rt; ending.notes.as_slice(), note.as_bytes());
-    Ok(())
+    stops(rt, alloc, ending, status, b"", text)
 }
 
 /// Files with a fault, and the detail that each note has to tell.

@@ -1,7 +1,7 @@
 //! One call of the tool over memory, and what it has to answer.
 ghost use Rattle.std.specs.Prelude.{◌<◌};
 
-use pim_io::{MemSink, MemSource};
+use pim_io::{MemSink, MemSource, SliceSource, Source};
 use pim_top::{Status, pim};
 use std::alloc::Global;
 use std::process::Abort;
@@ -14,6 +14,19 @@ pub const AND_PROGRAM: &[u8] =
 /// A two-input AND in ASCII AIGER.
 pub const AND_NETLIST: &[u8] = b"aag 3 2 0 1 1\n2\n4\n6\n6 4 2\n";
 
+/// The same in the binary form.
+pub const BINARY_AND: &[u8] = b"aig 3 2 0 1 1\n6\n\x02\x02";
+
+/// The exclusive or of two inputs.
+pub const XOR: &[u8] = b".model x\n.inputs a b\n.outputs f\n.names a b f\n10 1\n01 1\n.end\n";
+
+/// Its program, in eight cells.
+pub const XOR_PROGRAM: &[u8] =
+    b"pim 1\ntarget magic\ncells 8\ninput 0 a\ninput 1 b\noutput 7 f\ncycles 7\ninit 2 3 4 5 6 7\nnot 2 1\nnot 3 0\nnor 4 3 1\nnor 5 0 2\nnor 6 4 5\nnot 7 6\nend\n";
+
+/// The words that compile to MAGIC with at most five cells.
+pub const FIVE: &[&str] = &["compile", "--target", "magic", "--cells", "5"];
+
 /// Words, standard input, and the status, output and note that they have to give.
 #[derive(Clone, Copy)]
 pub struct Case {
@@ -25,7 +38,7 @@ pub struct Case {
 }
 
 /// The words as the tool takes them.
-pub fn words_of(alloc: Global, words: &[&str]) -> Result<Vec<String>, Fail> {
+fn words_of(alloc: Global, words: &[&str]) -> Result<Vec<String>, Fail> {
     let mut all = Vec::new(alloc);
     for word in words {
         all.push(String::from_str(alloc, word)?)?;
@@ -41,28 +54,63 @@ pub struct Ending {
     pub notes: Vec<u8>,
 }
 
-/// Makes the call with ample memory and room, where the input comes in pieces of so many bytes.
-pub fn call(alloc: Global, words: &[&str], input: &[u8], piece: usize) -> Result<Ending, Fail>
-    requires { 0 < piece }
-{
+/// Makes the call over these sources and sinks, and says how it ended.
+pub fn call_over<P: Source, S: Source>(
+    alloc: Global,
+    words: &[&str],
+    program: &mut P,
+    input: &mut S,
+    output: &mut MemSink,
+    notes: &mut MemSink,
+) -> Result<Ending, Fail> {
     let words = words_of(alloc, words)?;
-    let mut program = MemSource::new(alloc, b"", 1, &[])?;
-    let mut input = MemSource::new(alloc, input, piece, &[])?;
-    let mut output = MemSink::new(alloc, 65_536, 4_096, &[])?;
-    let mut notes = MemSink::new(alloc, 1_048_576, 4_096, &[])?;
-    let status = pim(
-        alloc,
-        &words,
-        &mut program,
-        &mut input,
-        &mut output,
-        &mut notes,
-    );
+    let status = pim(alloc, &words, program, input, output, notes);
     Ok(Ending {
         status,
         output: Vec::from_slice(alloc, output.bytes())?,
         notes: Vec::from_slice(alloc, notes.bytes())?,
     })
+}
+
+/// Makes the call without a program, with ample memory and room, where the input comes in pieces of so many bytes.
+pub fn call(alloc: Global, words: &[&str], input: &[u8], piece: usize) -> Result<Ending, Fail>
+    requires { 0 < piece }
+{
+    let mut program = SliceSource::new(b"");
+    let mut input = MemSource::new(alloc, input, piece, &[])?;
+    let mut output = MemSink::new(alloc, 65_536, 4_096, &[])?;
+    let mut notes = MemSink::new(alloc, 1_048_576, 4_096, &[])?;
+    call_over(
+        alloc,
+        words,
+        &mut program,
+        &mut input,
+        &mut output,
+        &mut notes,
+    )
+}
+
+/// A call that was done, and wrote this.
+pub fn gives(rt: &impl Abort, ending: &Ending, output: &[u8]) {
+    assert_eq!(rt; ending.status, Status::Done);
+    assert_eq!(rt; ending.output.as_slice(), output);
+    assert_eq!(rt; ending.notes.as_slice(), b"".as_slice());
+}
+
+/// A call that ended with this status and this line in the notes, and wrote this before.
+pub fn stops(
+    rt: &impl Abort,
+    alloc: Global,
+    ending: &Ending,
+    status: Status,
+    output: &[u8],
+    text: &str,
+) -> Result<(), Fail> {
+    let note = format!(in alloc; "pim: {text}\n")?;
+    assert_eq!(rt; ending.status, status, "where {text} is wanted");
+    assert_eq!(rt; ending.output.as_slice(), output, "where {text} is wanted");
+    assert_eq!(rt; ending.notes.as_slice(), note.as_bytes());
+    Ok(())
 }
 
 /// Makes the call with ample memory and room, and compares.

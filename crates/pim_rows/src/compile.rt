@@ -1,9 +1,7 @@
 //! `compile`: small netlists, refusals for cells and for words.
-use crate::case::{AND_NETLIST, AND_PROGRAM, Case, check};
+use crate::case::{AND_NETLIST, AND_PROGRAM, Case, FIVE, check};
 use pim_top::Status;
 use std::test::Fail;
-
-const FIVE: &[&str] = &["compile", "--target", "magic", "--cells", "5"];
 
 #[test]
 fn compiles(rt: HostRuntime) -> Result<(), Fail> {

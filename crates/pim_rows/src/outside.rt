@@ -1,37 +1,29 @@
 //! Sources and sinks that fail.
-use crate::case::{AND_NETLIST, AND_PROGRAM, Ending, words_of};
-use pim_io::{MemSink, MemSource};
-use pim_top::{Status, pim};
+use crate::case::{AND_NETLIST, AND_PROGRAM, Ending, FIVE, call, call_over, stops};
+use pim_io::{MemSink, MemSource, SliceSource};
+use pim_top::Status;
 use std::alloc::Global;
 use std::test::Fail;
 
-const FIVE: &[&str] = &["compile", "--target", "magic", "--cells", "5"];
-
-/// Compiles the AND one byte at a time, where these calls of the input, the output and the notes fail.
+/// Compiles the AND one byte at a time, where these calls of the input and of the output fail.
 fn compile_and(
     alloc: Global,
     input_failing: &[u64],
     output_failing: &[u64],
     room: usize,
 ) -> Result<Ending, Fail> {
-    let words = words_of(alloc, FIVE)?;
-    let mut program = MemSource::new(alloc, b"", 1, &[])?;
+    let mut program = SliceSource::new(b"");
     let mut input = MemSource::new(alloc, AND_NETLIST, 1, input_failing)?;
     let mut output = MemSink::new(alloc, room, 1, output_failing)?;
     let mut notes = MemSink::new(alloc, 4_096, 4_096, &[])?;
-    let status = pim(
+    call_over(
         alloc,
-        &words,
+        FIVE,
         &mut program,
         &mut input,
         &mut output,
         &mut notes,
-    );
-    Ok(Ending {
-        status,
-        output: Vec::from_slice(alloc, output.bytes())?,
-        notes: Vec::from_slice(alloc, notes.bytes())?,
-    })
+    )
 }
 
 #[test]
@@ -68,50 +60,30 @@ fn a_failing_write_leaves_a_prefix(rt: HostRuntime) -> Result<(), Fail> {
 #[test]
 fn failing_notes_change_nothing(rt: HostRuntime) -> Result<(), Fail> {
     let alloc = rt.alloc();
-    let words = words_of(alloc, &["compile", "--target", "magic", "--cells", "4"])?;
-    let mut program = MemSource::new(alloc, b"", 1, &[])?;
-    let mut input = MemSource::new(alloc, AND_NETLIST, 7, &[])?;
+    let words = ["compile", "--target", "magic", "--cells", "4"];
+    let mut program = SliceSource::new(b"");
+    let mut input = SliceSource::new(AND_NETLIST);
     let mut output = MemSink::new(alloc, 4_096, 4_096, &[])?;
     let mut notes = MemSink::new(alloc, 4_096, 4_096, &[0])?;
-    let status = pim(
+    let ending = call_over(
         alloc,
         &words,
         &mut program,
         &mut input,
         &mut output,
         &mut notes,
-    );
-    assert_eq!(rt; status, Status::TooFewCells);
-    assert_eq!(rt; output.bytes(), b"".as_slice());
-    assert_eq!(rt; notes.bytes(), b"".as_slice());
+    )?;
+    assert_eq!(rt; ending.status, Status::TooFewCells);
+    assert_eq!(rt; ending.output.as_slice(), b"".as_slice());
+    assert_eq!(rt; ending.notes.as_slice(), b"".as_slice());
     Ok(())
-}
-
-/// Some bytes, all of them `#`.
-fn hashes(alloc: Global, count: usize) -> Result<Vec<u8>, Fail> {
-    let bytes = vec![in alloc; b'#'; count]?;
-    Ok(bytes)
 }
 
 #[test]
 fn one_byte_too_many(rt: HostRuntime) -> Result<(), Fail> {
     let alloc = rt.alloc();
-    let words = words_of(alloc, FIVE)?;
-    let bytes = hashes(alloc, 67_108_865)?;
-    let mut program = MemSource::new(alloc, b"", 1, &[])?;
-    let mut input = MemSource::new(alloc, &bytes, 1_048_576, &[])?;
-    let mut output = MemSink::new(alloc, 4_096, 4_096, &[])?;
-    let mut notes = MemSink::new(alloc, 4_096, 4_096, &[])?;
-    let status = pim(
-        alloc,
-        &words,
-        &mut program,
-        &mut input,
-        &mut output,
-        &mut notes,
-    );
-    assert_eq!(rt; status, Status::TooLarge);
-    assert_eq!(rt; output.bytes(), b"".as_slice());
-    assert_eq!(rt; notes.bytes(), b"pim: too large: bytes\n".as_slice());
-    Ok(())
+    let hashes = vec![in alloc; b'#'; 67_108_865]?;
+    let ending = call(alloc, FIVE, &hashes, 1_048_576)?;
+    let text = "too large: bytes";
+    stops(&rt, alloc, &ending, Status::TooLarge, b"", text)
 }

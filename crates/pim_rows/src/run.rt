@@ -1,14 +1,13 @@
-//! `run` from end to end: programs on vectors, files and lines that are refused, and sources and sinks that fail.
+//! `run` from end to end: programs on vectors, files and lines that are refused, limits, and sources and sinks that fail.
 mod files;
+mod limits;
 mod outside;
 mod vectors;
 mod words;
 
-use crate::case::{Ending, words_of};
+use crate::case::{Ending, call_over};
 use pim_io::{MemSink, SliceSource, Source};
-use pim_top::{Status, pim};
 use std::alloc::Global;
-use std::process::Abort;
 use std::test::Fail;
 
 const FILLINGS: [&'static str; 2] = ["zeros", "ones"];
@@ -21,18 +20,13 @@ fn run_over<P: Source, S: Source>(
     vectors: &mut S,
     output: &mut MemSink,
 ) -> Result<Ending, Fail> {
-    let words = words_of(alloc, &["run", "program", "--fill", filling])?;
+    let words = ["run", "program", "--fill", filling];
     let mut notes = MemSink::new(alloc, 4_096, 4_096, &[])?;
-    let status = pim(alloc, &words, program, vectors, output, &mut notes);
-    Ok(Ending {
-        status,
-        output: Vec::from_slice(alloc, output.bytes())?,
-        notes: Vec::from_slice(alloc, notes.bytes())?,
-    })
+    call_over(alloc, &words, program, vectors, output, &mut notes)
 }
 
 /// Runs a program on vectors, with room for so many bytes.
-fn run_on(
+pub fn run_on(
     alloc: Global,
     filling: &str,
     program: &[u8],
@@ -45,31 +39,8 @@ fn run_on(
     run_over(alloc, filling, &mut program, &mut vectors, &mut output)
 }
 
-/// A run that was done, and wrote this.
-fn gives(rt: &impl Abort, ending: &Ending, results: &[u8]) {
-    assert_eq!(rt; ending.status, Status::Done);
-    assert_eq!(rt; ending.output.as_slice(), results);
-    assert_eq!(rt; ending.notes.as_slice(), b"".as_slice());
-}
-
-/// A run that ended with this status and this line in the notes, and wrote this before.
-fn stops(
-    rt: &impl Abort,
-    alloc: Global,
-    ending: &Ending,
-    status: Status,
-    results: &[u8],
-    text: &str,
-) -> Result<(), Fail> {
-    let note = format!(in alloc; "pim: {text}\n")?;
-    assert_eq!(rt; ending.status, status, "where {text} is wanted");
-    assert_eq!(rt; ending.output.as_slice(), results, "where {text} is wanted");
-    assert_eq!(rt; ending.notes.as_slice(), note.as_bytes());
-    Ok(())
-}
-
 /// The same bytes so many times.
-fn repeated(alloc: Global, piece: &[u8], times: usize) -> Result<Vec<u8>, Fail> {
+pub fn repeated(alloc: Global, piece: &[u8], times: usize) -> Result<Vec<u8>, Fail> {
     let mut bytes = Vec::new(alloc);
     for _ in 0..times {
         bytes.extend_from_slice(piece)?;

@@ -1,10 +1,8 @@
 //! Small netlists and their programs, worked by hand: the inputs' cells come first, then a cell for each gate.
 use super::{compile, compiles, is_wires, refuses};
+use crate::case::{XOR, XOR_PROGRAM};
 use pim_top::Status;
 use std::test::Fail;
-
-/// The exclusive or of two inputs.
-const XOR: &[u8] = b".model x\n.inputs a b\n.outputs f\n.names a b f\n10 1\n01 1\n.end\n";
 
 /// A cover of its off-set, with a line that goes on.
 const OFF_SET: &[u8] =
@@ -71,13 +69,7 @@ fn a_tautology(rt: HostRuntime) -> Result<(), Fail> {
 #[test]
 fn an_exclusive_or(rt: HostRuntime) -> Result<(), Fail> {
     for cells in ["8", "100"] {
-        compiles(
-            &rt,
-            rt.alloc(),
-            cells,
-            XOR,
-            b"pim 1\ntarget magic\ncells 8\ninput 0 a\ninput 1 b\noutput 7 f\ncycles 7\ninit 2 3 4 5 6 7\nnot 2 1\nnot 3 0\nnor 4 3 1\nnor 5 0 2\nnor 6 4 5\nnot 7 6\nend\n",
-        )?;
+        compiles(&rt, rt.alloc(), cells, XOR, XOR_PROGRAM)?;
     }
     Ok(())
 }

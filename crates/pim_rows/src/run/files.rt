@@ -1,6 +1,6 @@
 //! Program files that `run` refuses, and files of many cells.
-use super::{and_file, gives, run_on, stops};
-use crate::case::AND_PROGRAM;
+use super::{and_file, run_on};
+use crate::case::{AND_PROGRAM, gives, stops};
 use pim_top::Status;
 use std::test::Fail;
 

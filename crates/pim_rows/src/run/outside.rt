@@ -1,6 +1,6 @@
 //! Runs whose sources and sinks fail.
-use super::{repeated, run_on, run_over, stops};
-use crate::case::AND_PROGRAM;
+use super::{repeated, run_on, run_over};
+use crate::case::{AND_PROGRAM, stops};
 use pim_io::{MemSink, MemSource, SliceSource};
 use pim_top::Status;
 use std::test::Fail;

@@ -1,6 +1,6 @@
 //! What programs give for vectors, and lines that are no vectors.
-use super::{FILLINGS, and_file, gives, repeated, run_on, stops};
-use crate::case::AND_PROGRAM;
+use super::{FILLINGS, and_file, repeated, run_on};
+use crate::case::{AND_PROGRAM, gives, stops};
 use pim_top::Status;
 use std::test::Fail;
 

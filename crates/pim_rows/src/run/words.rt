@@ -1,31 +1,24 @@
 //! Words of `run`.
-use super::{gives, stops};
-use crate::case::{AND_PROGRAM, Ending, words_of};
+use crate::case::{AND_PROGRAM, Ending, call_over, gives, stops};
 use pim_io::{MemSink, SliceSource};
-use pim_top::{Status, pim};
+use pim_top::Status;
 use std::alloc::Global;
 use std::test::Fail;
 
 /// Calls the tool with these words, the program of an AND and one vector.
 fn run_by(alloc: Global, words: &[&str]) -> Result<Ending, Fail> {
-    let words = words_of(alloc, words)?;
     let mut program = SliceSource::new(AND_PROGRAM);
     let mut vectors = SliceSource::new(b"11\n");
     let mut output = MemSink::new(alloc, 64, 64, &[])?;
     let mut notes = MemSink::new(alloc, 64, 64, &[])?;
-    let status = pim(
+    call_over(
         alloc,
-        &words,
+        words,
         &mut program,
         &mut vectors,
         &mut output,
         &mut notes,
-    );
-    Ok(Ending {
-        status,
-        output: Vec::from_slice(alloc, output.bytes())?,
-        notes: Vec::from_slice(alloc, notes.bytes())?,
-    })
+    )
 }
 
 #[test]
