@@ -1,4 +1,3 @@
-pub mod Took
 pub mod Walking
 pub mod WalkSteps
 pub mod Reading

@@ -15,7 +15,7 @@ use Rattle.pim_top.specs.Vectors.{AreVectors, RanInPart, RanWhole, vectors_of, v
 use Rattle.pim_top.specs.Walks.{Ends, IsRunning, IsWalk, Stops, TakesUp, WalkView, start, width}
 use Rattle.pim_top.specs.declared.refusal.Refusal.{Refusal}
 use Rattle.pim_top.specs.declared.refusal.Refusal.TheVariants as refusal
-use Rattle.pim_top.proofs.Took.{then-first}
+use Rattle.pim_batch.proofs.Took.{then_first}
 use Rattle.pim_top.proofs.Walking.{refused-here, said-here, table-append, take-front, there, tiles-ran, told-map, walk-flushed, walk-more}
 
 -- some rows make a tile
@@ -175,7 +175,7 @@ in-part bytes rest before taken now w gone h took first =
     let front : take w.lines.given (vectors_of bytes) ≡ gone ++ vs =
     ap (take w.lines.given) (h.cut ∙ sym (append_assoc gone vs (vectors_of (w.lines.held ++ rest))))
     ∙ take-front (gone ++ vs) (vectors_of (w.lines.held ++ rest)) w.lines.given (omega (arith, h.given, length-append gone vs)) in
-    let all : TookFirst (Some before) (Some now) (table p f gone ++ table p f vs) = then-first (Some before) (Some taken) (Some now) (table p f gone) (table p f vs) took first in
+    let all : TookFirst (Some before) (Some now) (table p f gone ++ table p f vs) = then_first (Some before) (Some taken) (Some now) (table p f gone) (table p f vs) took first in
     let same : table p f gone ++ table p f vs ≡ table p f (take w.lines.given (vectors_of bytes)) = sym (table-append p f gone vs) ∙ ap (table p f) (sym front) in
     record {
       count = w.lines.given;
