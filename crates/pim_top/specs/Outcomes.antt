@@ -6,7 +6,11 @@ use Rattle.pim_net.specs.WellFormed.{IsNet}
 use Rattle.pim_isa.specs.Programs.{ProgramView}
 use Rattle.pim_isa.specs.declared.target.Fill.{Fill}
 use Rattle.pim_isa.specs.declared.target.Fill.TheVariants as fills
+use Rattle.pim_compile.specs.declared.compiling.Target.{Target}
+use Rattle.pim_compile.specs.declared.compiling.Target.TheVariants as machines
 use Rattle.pim_compile.specs.Refusals.{IsAccepted}
+use Rattle.pim_compile.specs.declared.compiling.Level.{Level}
+use Rattle.pim_compile.specs.declared.compiling.Level.TheVariants as efforts
 use Rattle.pim_file.specs.ProgramFile.{parse1_of}
 use Rattle.pim_file.specs.declared.fault.FileFault.{FileFault}
 use Rattle.pim_words.specs.Reading.{command_said, is_usage}
@@ -16,6 +20,8 @@ use Rattle.pim_words.specs.declared.command.FillWord.{FillWord}
 use Rattle.pim_words.specs.declared.command.LevelWord.{LevelWord}
 use Rattle.pim_words.specs.declared.command.TargetWord.{TargetWord}
 use Rattle.pim_words.specs.declared.command.FillWord.TheVariants as word
+use Rattle.pim_words.specs.declared.command.LevelWord.TheVariants as levels
+use Rattle.pim_words.specs.declared.command.TargetWord.TheVariants as targets
 use Rattle.pim_top.specs.Compiled.{CompilesWhole, CompilesInPart}
 use Rattle.pim_top.specs.Cuts.{Cuts}
 use Rattle.pim_top.specs.Netlists.{net_of, IsFault}
@@ -30,6 +36,14 @@ use Rattle.pim_top.specs.declared.refusal.Origin.TheVariants as origin
 use Rattle.pim_top.specs.declared.refusal.Refusal.{Refusal}
 use Rattle.pim_top.specs.declared.refusal.Refusal.TheVariants as refusal
 use Rattle.pim_top.specs.declared.status.Status.{Status}
+
+-- the machine that a word of `--target` names
+abbrev pub target_of : TargetWord → Target
+target_of targets.Magic = machines.Magic
+
+-- the effort that a word of `--level` names
+abbrev pub level_of : LevelWord → Level
+level_of levels.Zero = efforts.Zero
 
 -- the filling that a word of `--fill` names
 abbrev pub fill_of : FillWord → Fill

@@ -6,7 +6,7 @@ ghost use Rattle.pim_isa.specs.declared.target.Fill.{Fill};
 ghost use Rattle.pim_words.specs.Plain.{IsPlain};
 ghost use Rattle.pim_words.specs.Reading.{is_usage};
 ghost use Rattle.pim_words.specs.declared.command.Command.{Command};
-ghost use Rattle.pim_top.specs.Outcomes.{IsCounted, IsCut, IsDone, IsExplained, IsFaulty, IsFaultyFile, IsFine, IsFineRun, IsRefused, IsRefusedRun, fill_of, says_run};
+ghost use Rattle.pim_top.specs.Outcomes.{IsCounted, IsCut, IsDone, IsExplained, IsFaulty, IsFaultyFile, IsFine, IsFineRun, IsRefused, IsRefusedRun, fill_of, level_of, says_run, target_of};
 ghost use Rattle.pim_top.specs.Statuses.{status_of};
 
 use crate::Status;
@@ -143,14 +143,18 @@ fn obey<P: Source, S: Source, K: Sink>(
 }
 
 /// The machine that a word of `--target` names.
-fn target_of(word: TargetWord) -> Target {
+fn target_of(word: TargetWord) -> Target
+    ensures { result ≡ target_of word }
+{
     match word {
         TargetWord::Magic => Target::Magic,
     }
 }
 
 /// The effort that a word of `--level` names.
-fn level_of(word: LevelWord) -> Level {
+fn level_of(word: LevelWord) -> Level
+    ensures { result ≡ level_of word }
+{
     match word {
         LevelWord::Zero => Level::Zero,
     }
