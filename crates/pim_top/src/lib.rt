@@ -13,4 +13,4 @@ mod walk;
 
 pub use pim_words::program_word;
 pub use status::Status;
-pub use top::pim;
+pub use top::{no_memory, pim};

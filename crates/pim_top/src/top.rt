@@ -7,6 +7,7 @@ ghost use Rattle.pim_words.specs.Plain.{IsPlain};
 ghost use Rattle.pim_words.specs.Reading.{is_usage};
 ghost use Rattle.pim_words.specs.declared.command.Command.{Command};
 ghost use Rattle.pim_top.specs.Outcomes.{IsCounted, IsCut, IsDone, IsExplained, IsFaulty, IsFaultyFile, IsFine, IsFineRun, IsRefused, IsRefusedRun, fill_of, level_of, says_run, target_of};
+ghost use Rattle.pim_top.specs.Notes.{IsNoted, note};
 ghost use Rattle.pim_top.specs.Statuses.{status_of};
 
 use crate::Status;
@@ -91,6 +92,16 @@ pub fn pim<P: Source, S: Source, K: Sink, E: Sink>(
             refusal.status()
         }
     }
+}
+
+/// Ends a call for whose words there is no memory: writes the note of that, and gives its status.
+pub fn no_memory<E: Sink>(notes: &mut E) -> Status
+    ensures status { result ≡ Status.NoMemory }
+    ensures noted { IsNoted (E.taken notes.old) (E.taken notes.new) (E.faults notes.old) (E.faults notes.new) (note Refusal.NoMemory) }
+{
+    let refusal = Refusal::NoMemory;
+    tell(&refusal, notes);
+    refusal.status()
 }
 
 /// Reads the words, and does what their command does.
