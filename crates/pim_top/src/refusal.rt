@@ -1,4 +1,4 @@
-//! Why a command wrote nothing, with the evidence that its note names.
+//! Why a command was not done, with the evidence that its note names.
 ghost use Rattle.std.specs.Prelude.{◌≡◌};
 ghost use Rattle.pim_top.specs.Statuses.{status_of, words_refusal, IsInner};
 ghost use Rattle.pim_top.specs.Refusals.{aiger_refusal, blif_refusal, file_refusal, netlist_refusal};
@@ -33,7 +33,7 @@ pub enum Origin {
     Input,
 }
 
-/// Why a command ended without its text, with the place or number that the note names.
+/// Why a command ended before all was written, with the place or number that the note names.
 #[derive(Debug, Drop)]
 pub enum Refusal {
     Usage,
