@@ -81,9 +81,9 @@ Stops old left rest new (refusal.ReadFault origin) =
     (new.lines.held ++ rest ≡ old.lines.held ++ left) × (line_len new.lines.held ≡ length new.lines.held)
 Stops old left rest new r = says old left ≡ Err r
 
--- one line more was taken, and no more than the limit allows
+-- one line more was taken, and before it no more than the limit allows
 abbrev pub IsFurther : WalkView → WalkView → Type 0
-IsFurther old new = (new.lines.given ≡ old.lines.given + 1) × (new.lines.given ≤ MAX_LINES)
+IsFurther old new = (new.lines.given ≡ old.lines.given + 1) × (old.lines.given ≤ MAX_LINES)
 
 -- where a walk over the lines of the bytes stands, of which some are left in the source: the vectors that were written,
 -- those that are packed, and those of the lines that follow

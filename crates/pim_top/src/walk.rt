@@ -146,9 +146,6 @@ impl<'a> Walk<'a> {
                     return Err(Refusal::Vector(number));
                 }
                 self.batch.push(line);
-
-                // It tells that there are no more lines than the limit allows.
-                let _given = self.lines.given();
                 Ok(true)
             }
             Err(fault) => Err(of_lines(fault)),
