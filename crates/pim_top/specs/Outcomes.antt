@@ -27,7 +27,7 @@ use Rattle.pim_top.specs.Cuts.{Cuts}
 use Rattle.pim_top.specs.Netlists.{net_of, IsFault}
 use Rattle.pim_top.specs.Notes.{IsNoted, note}
 use Rattle.pim_top.specs.Refusals.{CompileRefuses}
-use Rattle.pim_top.specs.Runs.{IsFileFault, RunRefuses, RunsInPart, RunsWhole}
+use Rattle.pim_top.specs.Runs.{IsFileFault, IsIdle, IsOfFile, RunRefuses, RunsInPart, RunsWhole}
 use Rattle.pim_top.specs.Statuses.{status_of}
 use Rattle.pim_vectors.specs.Lines.{lines}
 use Rattle.pim_top.specs.Vectors.{AreVectors, verdict}
@@ -97,13 +97,14 @@ IsCounted file_before file_now left_before left_now taken_before taken_now refus
 IsCounted file_before file_now left_before left_now taken_before taken_now r = Unit {0}
 
 -- a call that ended with this status had a refusal of that status, which is explained; a fault of the outside that it names
--- was counted, and its note was written
+-- was counted, and its note was written; where it comes of a program file, no vector was taken and nothing was written
 pub record IsRefused (words : List (List ℕ)) (file_before file_now left_before left_now taken_before taken_now : Option (List ℕ)) (file_faults file_faults_now left_faults left_faults_now taken_faults taken_faults_now : ℕ) (noted_before noted_now : Option (List ℕ)) (note_faults note_faults_now : ℕ) (status : Status) : Type 0 where
   pub refusal : Refusal
   pub ends : status_of refusal ≡ status
   pub explained : IsExplained words file_before file_now left_before left_now taken_before taken_now refusal
   pub counted : IsCounted file_faults file_faults_now left_faults left_faults_now taken_faults taken_faults_now refusal
   pub noted : IsNoted noted_before noted_now note_faults note_faults_now (note refusal)
+  pub idle : IsOfFile refusal → IsIdle left_before left_now taken_before taken_now
 
 -- the command is `run`
 abbrev pub is_run : Option Command → Bool

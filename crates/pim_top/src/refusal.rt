@@ -11,11 +11,18 @@ use pim_file::FileFault;
 use pim_net::{Kind, NetFault};
 use pim_words::WordsFault;
 
+/// A source that a command reads.
+#[derive(Clone, Copy, Debug, PartialEq, Eq)]
+pub enum Origin {
+    Program,
+    Input,
+}
+
 /// A limit of the tool that an input passed.
 #[derive(Clone, Copy, Debug, PartialEq, Eq)]
 pub enum Limit {
-    /// The bytes of the input.
-    Bytes,
+    /// The bytes of a source.
+    Bytes(Origin),
     /// The AND nodes of the flat graph.
     Nodes,
     /// The lines of vectors.
@@ -24,13 +31,6 @@ pub enum Limit {
     Cells,
     /// A count or a length that the reader of the netlist judges.
     Netlist(Kind),
-}
-
-/// Which source could not be read.
-#[derive(Clone, Copy, Debug, PartialEq, Eq)]
-pub enum Origin {
-    Program,
-    Input,
 }
 
 /// Why a command ended before all was written, with the place or number that the note names.

@@ -8,6 +8,7 @@ ghost use Rattle.pim_words.specs.Reading.{is_usage};
 ghost use Rattle.pim_words.specs.declared.command.Command.{Command};
 ghost use Rattle.pim_top.specs.Outcomes.{IsCounted, IsCut, IsDone, IsExplained, IsFaulty, IsFaultyFile, IsFine, IsFineRun, IsRefused, IsRefusedRun, fill_of, level_of, says_run, target_of};
 ghost use Rattle.pim_top.specs.Notes.{IsNoted, note};
+ghost use Rattle.pim_top.specs.Runs.{IsIdle, IsOfFile};
 ghost use Rattle.pim_top.specs.Statuses.{status_of};
 
 use crate::Status;
@@ -129,6 +130,8 @@ fn obey<P: Source, S: Source, K: Sink>(
     ensures usage { IfErr result (λ refusal. status_of refusal ≡ Status.Usage → is_usage (map string_bytes words.now) ≡ true) }
     ensures accepted { IfErr result (λ refusal. status_of refusal ≢ Status.Usage → status_of refusal ≢ Status.NoMemory → is_usage (map string_bytes words.now) ≡ false) }
     ensures plain { IfErr result (λ refusal. (command : Command) → IsPlain command (map string_bytes words.now) → status_of refusal ≢ Status.Usage) }
+    ensures idle { IfErr result (λ refusal. IsOfFile refusal
+        → IsIdle (S.left input.old) (S.left input.new) (K.taken output.old) (K.taken output.new)) }
     ensures valid { OnOk result (is_usage (map string_bytes words.now) ≡ false) }
     ensures ends { IfErr result (λ refusal. status_of refusal ≢ Status.Done) }
 {

@@ -161,6 +161,6 @@ fn of_lines(fault: LinesFault) -> Refusal
         LinesFault::Fault => Refusal::ReadFault(Origin::Input),
         LinesFault::Long(line) => Refusal::Vector(line),
         LinesFault::TooMany => Refusal::TooLarge(Limit::Rows),
-        LinesFault::TooLong => Refusal::TooLarge(Limit::Bytes),
+        LinesFault::TooLong => Refusal::TooLarge(Limit::Bytes(Origin::Input)),
     }
 }
