@@ -4,31 +4,36 @@
 mod file;
 
 use crate::file::FileSource;
-use pim_io::{ReadSource, WriteSink};
-use pim_top::{pim, program_word};
+use pim_io::{NoMemory, ReadSource, WriteSink};
+use pim_top::{no_memory, pim, program_word};
 use std::env;
+use std::io::ErrorKind;
 use std::process::ExitCode;
 
 /// The words after the program's name. Words that can't be read, as those that are no UTF-8, count as none.
-fn words(rt: &HostRuntime) -> Vec<String> {
+fn words(rt: &HostRuntime) -> Result<Vec<String>, NoMemory> {
     let mut words = Vec::new(rt.alloc());
-    let Ok(args) = env::args(rt) else {
-        return words;
+    let args = match env::args(rt) {
+        Ok(args) => args,
+        Err(fault) => match fault.kind() {
+            ErrorKind::OutOfMemory => return Err(NoMemory),
+            _ => return Ok(words),
+        },
     };
     for word in args.skip(1) {
-        if words.push(word).is_err() {
-            return Vec::new(rt.alloc());
-        }
+        words.push(word)?;
     }
-    words
+    Ok(words)
 }
 
 fn main(rt: HostRuntime) -> ExitCode {
-    let words = words(&rt);
+    let mut notes = WriteSink::new(rt.stderr());
+    let Ok(words) = words(&rt) else {
+        return ExitCode::from(no_memory(&mut notes).code());
+    };
     let mut program = FileSource::new(&rt, program_word(&words));
     let mut input = ReadSource::new(rt.stdin());
     let mut output = WriteSink::new(rt.stdout());
-    let mut notes = WriteSink::new(rt.stderr());
     let status = pim(
         rt.alloc(),
         &words,

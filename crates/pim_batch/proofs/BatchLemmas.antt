@@ -1,5 +1,5 @@
 -- A batch by its fields: `view` is what they are seen as, and `b` the value that clauses speak of.
-use Rattle.std.proofs.Common.{◌≡◌, ◌≢◌, ℕ, zero, suc, ◌+◌, ◌-◌, ◌*◌, ◌<◌, ◌≤◌, Bool, cond, eqb, List, [], ◌∷◌, ◌++◌, Option, length, map, refl, sym, ap, subst, ◌∙◌, arith}
+use Rattle.std.proofs.Common.{◌≡◌, ◌≢◌, ℕ, zero, suc, ◌+◌, ◌-◌, ◌*◌, ◌<◌, ◌≤◌, Bool, cond, eqb, List, [], ◌∷◌, ◌++◌, Option, Some, None, length, map, refl, sym, ap, subst, ◌∙◌, arith, append-nil}
 use Rattle.std.specs.Prelude.{IsTrue}
 use Rattle.std.specs.List.{range_with_len}
 use Rattle.std.proofs.lemmas.Bool.{eq-eqb, ne_eqb, eqb-true}
@@ -20,12 +20,12 @@ count view b t n is vectors =
     ap (λ (v : BatchView). length v.vectors) (sym is) ∙ ap length vectors ∙ length-map-range_with_len (tile_row t) 0 n
 
 -- ---- how many rows there are
-pub is_full : (view b : BatchView) (t : TileView) (n words : ℕ) → view ≡ b → view.vectors ≡ map (tile_row t) (range_with_len 0 n) → words ≡ tile_words view.program →
-    (IsTrue (eqb n (64 * words)) → length b.vectors ≡ tile_rows b.program) × (length b.vectors ≡ tile_rows b.program → IsTrue (eqb n (64 * words)))
-is_full view b t n words is vectors words_is =
+pub is_full : (view b : BatchView) (t : TileView) (n most : ℕ) → view ≡ b → view.vectors ≡ map (tile_row t) (range_with_len 0 n) → most ≡ tile_rows view.program →
+    (IsTrue (eqb n most) → length b.vectors ≡ tile_rows b.program) × (length b.vectors ≡ tile_rows b.program → IsTrue (eqb n most))
+is_full view b t n most is vectors most_is =
     let many : length b.vectors ≡ n = count view b t n is vectors in
-    let rows : 64 * words ≡ tile_rows b.program = ap (λ (w : ℕ). 64 * w) words_is ∙ ap (λ (v : BatchView). tile_rows v.program) is in
-    (λ full. many ∙ eqb-true n (64 * words) full ∙ rows, λ full. eq-eqb n (64 * words) (sym many ∙ full ∙ sym rows))
+    let rows : most ≡ tile_rows b.program = most_is ∙ ap (λ (v : BatchView). tile_rows v.program) is in
+    (λ full. many ∙ eqb-true n most full ∙ rows, λ full. eq-eqb n most (sym many ∙ full ∙ sym rows))
 
 pub row_free : (view b : BatchView) (t : TileView) (n words : ℕ) → view ≡ b → view.vectors ≡ map (tile_row t) (range_with_len 0 n) → words ≡ tile_words view.program →
     length b.vectors < tile_rows b.program → n < 64 * words
@@ -65,6 +65,19 @@ pushed view b old new n line is vectors row rows =
     rows r (omega arith) ∙ ap (λ (x : Bool). cond x (bits_of line) (tile_row old r)) (ne_eqb r n apart))
     ∙ sym vectors)
     ∙ ap (λ (l : List Bool). view.vectors ++ l ∷ []) (rows n row ∙ ap (λ (x : Bool). cond x (bits_of line) (tile_row old n)) (eq-eqb n n refl))))
+
+-- ---- no vectors
+pub none_packed : (view b : BatchView) (t : TileView) (n : ℕ) → view ≡ b → view.vectors ≡ map (tile_row t) (range_with_len 0 n) → n ≡ 0 → b.vectors ≡ []
+none_packed view b t n is vectors none =
+    ap (λ (v : BatchView). v.vectors) (sym is) ∙ vectors ∙ ap (λ (k : ℕ). map (tile_row t) (range_with_len 0 k)) none
+
+pub none_taken : (a : Option (List ℕ)) (b : BatchView) → b.vectors ≡ [] → TookAll a a (table b.program b.fill b.vectors)
+none_taken None b none = tt
+none_taken (Some taken) b none =
+    sym (append-nil taken) ∙ ap (λ (vs : List (List Bool)). taken ++ table b.program b.fill vs) (sym none)
+
+pub none_emptied : (b : BatchView) → b.vectors ≡ [] → b ≡ record b { vectors = [] }
+none_emptied b none = ap (λ (vs : List (List Bool)). record b { vectors = vs }) none
 
 -- ---- the lines of all rows
 pub table_is : (view b : BatchView) (start done : BankView) (vectors results : TileView) (n w : ℕ) → view ≡ b → view.vectors ≡ map (tile_row vectors) (range_with_len 0 n) →

@@ -6,7 +6,7 @@ use Rattle.pim_lanes.specs.Banks.{BankView}
 use Rattle.std.specs.List.{flat_map, range_with_len}
 use Rattle.pim_io.specs.Bits.{line_of}
 use Rattle.pim_vectors.specs.Tiles.{TileView, row_of}
-use Rattle.pim_batch.specs.Tables.{tile_words}
+use Rattle.pim_batch.specs.Tables.{tile_rows, tile_words}
 
 -- the program, the filling of its other cells, and the bits of the vectors that are packed
 pub record BatchView : Type 0 where
@@ -14,8 +14,9 @@ pub record BatchView : Type 0 where
   pub fill : Fill
   pub vectors : List (List Bool)
 
--- what every batch keeps: the sizes that its program asks for, room for a line with its newline and for the rows
-pub record IsBatch (p : ProgramView) (bank : BankView) (vectors results : TileView) (chunk : List ℕ) (rows : ℕ) : Type 0 where
+-- what every batch keeps: the sizes that its program asks for, room for a line with its newline, and at most so many rows as
+-- are executed together
+pub record IsBatch (p : ProgramView) (bank : BankView) (vectors results : TileView) (chunk : List ℕ) (rows limit : ℕ) : Type 0 where
   pub cells : bank.cells ≡ p.cells
   pub words : bank.words ≡ tile_words p
   pub vector_columns : vectors.columns ≡ length p.inputs
@@ -24,6 +25,7 @@ pub record IsBatch (p : ProgramView) (bank : BankView) (vectors results : TileVi
   pub result_words : results.words ≡ tile_words p
   pub line_room : length p.outputs + 1 ≤ length chunk
   pub row_room : rows ≤ 64 * tile_words p
+  pub most : limit ≡ tile_rows p
 
 -- a row of a tile as a line
 abbrev pub row_line : TileView → ℕ → List ℕ

@@ -26,6 +26,9 @@ pub struct Batch<'a> {
     results: Tile,
     chunk: Vec<u8>,
     rows: u32,
+
+    // How many rows are executed together.
+    most: u32,
 }
 
 impl<'a> Model for Batch<'a> {
@@ -42,7 +45,7 @@ impl<'a> Model for Batch<'a> {
       vectors = map (row_of b.vectors) (range_with_len 0 b.rows);
     } };
 
-    ghost invariant = { λ b. IsBatch b.program.now b.bank b.vectors b.results b.chunk.items b.rows };
+    ghost invariant = { λ b. IsBatch b.program.now b.bank b.vectors b.results b.chunk.items b.rows b.most };
 }
 
 impl<'a> Batch<'a> {
@@ -63,6 +66,7 @@ impl<'a> Batch<'a> {
             results: Tile::new(alloc, outputs, words)?,
             chunk: vec![in alloc; 0; CHUNK.max(outputs as usize + 1)]?,
             rows: 0,
+            most: 64 * words as u32,
         })
     }
 
@@ -71,7 +75,7 @@ impl<'a> Batch<'a> {
         ensures full { IsTrue result ↔ (length self.now.vectors ≡ tile_rows self.now.program) }
         ensures within { length self.now.vectors ≤ tile_rows self.now.program }
     {
-        self.rows as usize == 64 * tile_words(self.program)
+        self.rows == self.most
     }
 
     /// Packs one more vector, a line of the characters `0` and `1`. Linear in the line.
@@ -86,9 +90,9 @@ impl<'a> Batch<'a> {
 
     /// Executes the vectors that are packed and writes a line of the characters `0` and `1` for each, in order; none is packed then.
     /// After a fault the vectors are still packed, and a second call would write those lines again that the sink took: drop the
-    /// batch. The program runs once, in all rows of the tile: a kernel or two for each instruction and one for each cell that an Init
-    /// names. Beside that the cost is linear in the cells and outputs and in the characters that are written: as many whole lines
-    /// at once as 64 KiB hold, or one. Takes no memory.
+    /// batch. Where none is packed nothing is executed. Else the program runs once, in all rows of the tile: a kernel or two for each
+    /// instruction and one for each cell that an Init names. Beside that the cost is linear in the cells and outputs and in the
+    /// characters that are written: as many whole lines at once as 64 KiB hold, or one. Takes no memory.
     pub fn flush<K: Sink>(&mut self, output: &mut K) -> Result<(), SinkFault>
         ensures whole { OnOk result (TookAll (K.taken output.old) (K.taken output.new)
             (table self.old.program self.old.fill self.old.vectors)) }
@@ -99,6 +103,9 @@ impl<'a> Batch<'a> {
         ensures emptied { OnOk result (self.new ≡ record self.old { vectors = [] }) }
         ensures stays { OnErr result (self.new ≡ self.old) }
     {
+        if self.rows == 0 {
+            return Ok(());
+        }
         rows::load_vectors(&mut self.bank, self.program, self.fill, &self.vectors);
         self.bank.run(self.program);
         rows::gather_results(&mut self.results, self.program, &self.bank);
@@ -111,7 +118,8 @@ impl<'a> Batch<'a> {
 
 /// How many words a column has: as many as 4,096 rows take, and as 256 rows take where a program has many cells or outputs.
 fn tile_words(program: &Program) -> usize
-    ensures { result ≡ tile_words program.now }
+    ensures value { result ≡ tile_words program.now }
+    ensures within { result ≤ 64 }
 {
     if program.cells() <= 65_536 && program.outputs().len() <= 65_536 {
         64

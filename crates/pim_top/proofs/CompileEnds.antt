@@ -44,7 +44,8 @@ fine-ends words bytes fine a b c d e f refusal.NoMemory h n u sc kc pc = refl
 fine-ends words bytes fine a b c d e f (refusal.TooFewCells needed) h n u sc kc pc =
     let enough = fine.enough h.net h.checked (same-draft bytes fine.draft h.net fine.is_net h.is_net) in
     absurd (omega (arith, enough.enough, h.is_need, h.more))
-fine-ends words bytes fine a b c d e f (refusal.TooLarge limit.Bytes) h n u sc kc pc = absurd (omega (arith, fine.fits, h))
+fine-ends words bytes fine a b c d e f (refusal.TooLarge (limit.Bytes origin.Program)) h n u sc kc pc = absurd h
+fine-ends words bytes fine a b c d e f (refusal.TooLarge (limit.Bytes origin.Input)) h n u sc kc pc = absurd (omega (arith, fine.fits, h))
 fine-ends words bytes fine a b c d e f (refusal.TooLarge limit.Nodes) h n u sc kc pc =
     let enough = fine.enough h.net h.checked (same-draft bytes fine.draft h.net fine.is_net h.is_net) in
     absurd (omega (arith, enough.few, h.many))
@@ -72,7 +73,8 @@ faulty-ends words bytes faulty a b c d e f (refusal.TooFewCells needed) h n u sc
     let right = h.is_net in
     let wrong = faulty.is_fault in
     cc
-faulty-ends words bytes faulty a b c d e f (refusal.TooLarge limit.Bytes) h n u sc kc pc = absurd (omega (arith, faulty.fits, h))
+faulty-ends words bytes faulty a b c d e f (refusal.TooLarge (limit.Bytes origin.Program)) h n u sc kc pc = absurd h
+faulty-ends words bytes faulty a b c d e f (refusal.TooLarge (limit.Bytes origin.Input)) h n u sc kc pc = absurd (omega (arith, faulty.fits, h))
 faulty-ends words bytes faulty a b c d e f (refusal.TooLarge limit.Nodes) h n u sc kc pc =
     let right = h.is_net in
     let wrong = faulty.is_fault in

@@ -27,7 +27,8 @@ input-refused budget before now f g (refusal.ReadFault origin.Input) h = told-ma
 input-refused budget before now f g refusal.WriteFault h = absurd h
 input-refused budget before now f g refusal.NoMemory h = told-map before now (λ x y. Unit {0}) _ (λ x y u. (tt, λ never. absurd never)) h
 input-refused budget before now f g (refusal.TooFewCells n) h = absurd h
-input-refused budget before now f g (refusal.TooLarge limit.Bytes) h = told-map before now (λ x y. 67108864 < length x) _ (λ x y long. (long, λ never. absurd never)) h
+input-refused budget before now f g (refusal.TooLarge (limit.Bytes origin.Program)) h = absurd (let e = h.0 in let z : ⊥ = cc in z)
+input-refused budget before now f g (refusal.TooLarge (limit.Bytes origin.Input)) h = told-map before now (λ x y. 67108864 < length x) _ (λ x y long. (long, λ never. absurd never)) h.1
 input-refused budget before now f g (refusal.TooLarge limit.Nodes) h = absurd h
 input-refused budget before now f g (refusal.TooLarge limit.Rows) h = absurd h
 input-refused budget before now f g (refusal.TooLarge limit.Cells) h = absurd h

@@ -13,9 +13,10 @@ use Rattle.pim_vectors.specs.Lines.{lines}
 use Rattle.pim_top.specs.Runs.{VectorsRefuse}
 use Rattle.pim_top.specs.Vectors.{AreVectors, RanInPart, RanWhole, vectors_of, verdict}
 use Rattle.pim_top.specs.Walks.{Ends, IsRunning, IsWalk, Stops, TakesUp, WalkView, start, width}
+use Rattle.pim_top.specs.declared.refusal.Origin.TheVariants as origin
 use Rattle.pim_top.specs.declared.refusal.Refusal.{Refusal}
 use Rattle.pim_top.specs.declared.refusal.Refusal.TheVariants as refusal
-use Rattle.pim_top.proofs.Took.{then-first}
+use Rattle.pim_batch.proofs.Took.{then_first}
 use Rattle.pim_top.proofs.Walking.{refused-here, said-here, table-append, take-front, there, tiles-ran, told-map, walk-flushed, walk-more}
 
 -- some rows make a tile
@@ -143,12 +144,15 @@ step-end a b k l old mid new told same p f took =
 -- ---- a refusal before anything was written
 refuses-here : (bytes left rest before taken : List ℕ) (old new : WalkView) (r : Refusal) → r ≢ refusal.WriteFault → Stops old left rest new r → IsRunning bytes left before taken old → VectorsRefuse old.batch.program old.batch.fill bytes rest before taken r
 refuses-here bytes left rest before taken old new refusal.Usage other s h = refused-here bytes left before taken old refusal.Usage h s
-refuses-here bytes left rest before taken old new (refusal.ReadFault origin) other s h = record {
+refuses-here bytes left rest before taken old new (refusal.ReadFault origin.Program) other s h = absurd s
+refuses-here bytes left rest before taken old new (refusal.ReadFault origin.Input) other s h = record {
   count = old.lines.given;
   tiles = tiles-ran bytes left before taken old h;
   held = new.lines.held;
-  taken = h.walk.behind ∙ sym s.0;
-  waits = s.1;
+  taken = h.walk.behind ∙ sym s.kept;
+  waits = s.waits.none;
+  short = omega (arith, s.waits.short, s.longest, h.walk.longest);
+  within = omega (arith, s.waits.within, s.place, h.walk.place, length-append new.lines.held rest);
 }
 refuses-here bytes left rest before taken old new refusal.WriteFault other s h = absurd (other refl)
 refuses-here bytes left rest before taken old new refusal.NoMemory other s h = refused-here bytes left before taken old refusal.NoMemory h s
@@ -175,7 +179,7 @@ in-part bytes rest before taken now w gone h took first =
     let front : take w.lines.given (vectors_of bytes) ≡ gone ++ vs =
     ap (take w.lines.given) (h.cut ∙ sym (append_assoc gone vs (vectors_of (w.lines.held ++ rest))))
     ∙ take-front (gone ++ vs) (vectors_of (w.lines.held ++ rest)) w.lines.given (omega (arith, h.given, length-append gone vs)) in
-    let all : TookFirst (Some before) (Some now) (table p f gone ++ table p f vs) = then-first (Some before) (Some taken) (Some now) (table p f gone) (table p f vs) took first in
+    let all : TookFirst (Some before) (Some now) (table p f gone ++ table p f vs) = then_first (Some before) (Some taken) (Some now) (table p f gone) (table p f vs) took first in
     let same : table p f gone ++ table p f vs ≡ table p f (take w.lines.given (vectors_of bytes)) = sym (table-append p f gone vs) ∙ ap (table p f) (sym front) in
     record {
       count = w.lines.given;

@@ -1,5 +1,5 @@
 -- How a walk over lines goes on.
-use Rattle.std.proofs.Common.{◌≡◌, ℕ, zero, suc, ◌+◌, ◌-◌, ◌*◌, ◌%◌, ◌<◌, ◌≤◌, ◌⊎◌, ◌&&◌, ◌||◌, Bool, true, false, cond, eqb, ltb, List, [], ◌∷◌, ◌++◌, length, get_or, map, take, drop, Option, Some, None, Result, Ok, Err, inl, inr, refl, sym, ap, ◌∙◌, subst, arith, append_assoc, length-append}
+use Rattle.std.proofs.Common.{◌≡◌, ◌≢◌, ℕ, zero, suc, ◌+◌, ◌-◌, ◌*◌, ◌%◌, ◌<◌, ◌≤◌, ◌⊎◌, ◌&&◌, ◌||◌, Bool, true, false, cond, eqb, ltb, List, [], ◌∷◌, ◌++◌, length, get_or, map, take, drop, Option, Some, None, Result, Ok, Err, inl, inr, refl, sym, ap, ◌∙◌, subst, arith, append_assoc, length-append}
 use Rattle.std.proofs.lemmas.Bool.{cases_lt}
 use Rattle.std.proofs.lemmas.Bool.Decides.{nat_tests}
 use Rattle.std.proofs.lemmas.List.Elements.{All-head, All-tail}
@@ -22,7 +22,8 @@ use Rattle.pim_vectors.specs.Next.{IsAfter, LinesView, ended, handed, next_of, w
 use Rattle.pim_vectors.specs.declared.fault.LinesFault.{LinesFault}
 use Rattle.pim_vectors.specs.declared.fault.LinesFault.TheVariants as faults
 use Rattle.pim_top.specs.Vectors.{AreVectors, HasVector, RanTiles, RefusedAt, after_lines, full_rows, is_vector, vectors_of, verdict, verdict_of}
-use Rattle.pim_top.specs.Walks.{Ends, IsRunning, IsWalk, Stops, TakesUp, WalkView, says, width}
+use Rattle.pim_top.specs.Walks.{Ends, IsRunning, IsWalk, Stops, TakesUp, WalkView, lines_refusal, says, width}
+use Rattle.pim_top.specs.declared.refusal.Origin.TheVariants as origin
 use Rattle.pim_top.specs.declared.refusal.Refusal.{Refusal}
 use Rattle.pim_top.specs.declared.refusal.Refusal.TheVariants as refusal
 
@@ -260,6 +261,25 @@ taken-told a b old new line after said fits packed =
     })
     (told-both a b _ _ _ (λ left rest s c. (s, c)) said after.cut)
     (told-both a b _ _ _ (λ left rest s c. (s, c)) after.rest after.place)
+
+-- why there is no line, where the source failed or a limit is passed
+pub failed-told : (a b : Option (List ℕ)) (old new : WalkView) (fault : LinesFault) → IsAfter old.lines a b (Err fault) new.lines → (fault ≢ faults.Fault → Told a b (λ left rest. next_of old.lines (old.lines.held ++ left) ≡ Err fault)) → Told a b (λ left rest. Stops old left rest new (lines_refusal fault))
+failed-told a b old new faults.Fault after said =
+    told-both a b (λ left rest. new.lines.held ++ rest ≡ old.lines.held ++ left) (λ left rest. new.lines.place + length (new.lines.held ++ rest) ≡ old.lines.place + length (old.lines.held ++ left)) (λ left rest. Stops old left rest new (refusal.ReadFault origin.Input))
+    (λ left rest kept place. record { kept = kept; longest = after.longest; place = place; waits = after.waits refl })
+    after.rest after.place
+failed-told a b old new (faults.Long n) after said =
+    told-map a b (λ left rest. next_of old.lines (old.lines.held ++ left) ≡ Err (faults.Long n)) (λ left rest. Stops old left rest new (refusal.Vector n))
+    (λ left rest s. ap (verdict_of (width old) old.lines.given) s)
+    (said (λ same. cc))
+failed-told a b old new faults.TooMany after said =
+    told-map a b (λ left rest. next_of old.lines (old.lines.held ++ left) ≡ Err faults.TooMany) (λ left rest. Stops old left rest new (lines_refusal faults.TooMany))
+    (λ left rest s. ap (verdict_of (width old) old.lines.given) s)
+    (said (λ same. cc))
+failed-told a b old new faults.TooLong after said =
+    told-map a b (λ left rest. next_of old.lines (old.lines.held ++ left) ≡ Err faults.TooLong) (λ left rest. Stops old left rest new (lines_refusal faults.TooLong))
+    (λ left rest s. ap (verdict_of (width old) old.lines.given) s)
+    (said (λ same. cc))
 
 pub unfit-told : (a b : Option (List ℕ)) (old new : WalkView) (line : List ℕ) (n : ℕ) → Told a b (λ left rest. next_of old.lines (old.lines.held ++ left) ≡ Ok (Some line)) → is_vector (width old) line ≡ false → n ≡ old.lines.given + 1 → Told a b (λ left rest. Stops old left rest new (refusal.Vector n))
 unfit-told a b old new line n said unfit number =

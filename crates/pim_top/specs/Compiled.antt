@@ -10,10 +10,12 @@ use Rattle.pim_net.specs.WellFormed.{IsNet}
 use Rattle.pim_top.specs.Refusals.{WasRead}
 use Rattle.pim_isa.specs.declared.target.Target.TheVariants.{Magic}
 use Rattle.pim_compile.specs.Computes.{Computes}
+use Rattle.pim_compile.specs.Refusals.{IsAccepted}
 use Rattle.pim_file.specs.Text.{text}
 
 -- the written bytes are the text of a program that computes the netlist of the bytes that were read, from every earlier
--- content of the other cells; it names no cell beyond the budget and primes every NOR target
+-- content of the other cells; it names no cell beyond the budget and primes every NOR target; the netlist is within the limit
+-- of AND nodes, and the budget is enough for it
 pub record Compiled (bytes : List ℕ) (budget : ℕ) (written : List ℕ) : Type 0 where
   pub net : NetView
   pub program : ProgramView
@@ -25,6 +27,7 @@ pub record Compiled (bytes : List ℕ) (budget : ℕ) (written : List ℕ) : Typ
   pub primed : IsPrimed program.instrs
   pub is_magic : program.target ≡ Magic
   pub within : program.cells ≤ budget
+  pub enough : IsAccepted net budget
 
 -- the output took the text of such a program, and no more
 pub record Written (bytes : List ℕ) (budget : ℕ) (before after : List ℕ) : Type 0 where

@@ -31,7 +31,7 @@ cycle_labels names (s ∷ ss) = (codes " " ++ label_of names s) ++ cycle_labels 
 
 -- the limit that is passed
 abbrev pub limit_word : Limit → List ℕ
-limit_word limit.Bytes = codes "bytes"
+limit_word (limit.Bytes source) = codes "bytes"
 limit_word limit.Nodes = codes "nodes"
 limit_word limit.Rows = codes "rows"
 limit_word limit.Cells = codes "cells"

@@ -6,7 +6,11 @@ use Rattle.pim_net.specs.WellFormed.{IsNet}
 use Rattle.pim_isa.specs.Programs.{ProgramView}
 use Rattle.pim_isa.specs.declared.target.Fill.{Fill}
 use Rattle.pim_isa.specs.declared.target.Fill.TheVariants as fills
+use Rattle.pim_compile.specs.declared.compiling.Target.{Target}
+use Rattle.pim_compile.specs.declared.compiling.Target.TheVariants as machines
 use Rattle.pim_compile.specs.Refusals.{IsAccepted}
+use Rattle.pim_compile.specs.declared.compiling.Level.{Level}
+use Rattle.pim_compile.specs.declared.compiling.Level.TheVariants as efforts
 use Rattle.pim_file.specs.ProgramFile.{parse1_of}
 use Rattle.pim_file.specs.declared.fault.FileFault.{FileFault}
 use Rattle.pim_words.specs.Reading.{command_said, is_usage}
@@ -16,12 +20,14 @@ use Rattle.pim_words.specs.declared.command.FillWord.{FillWord}
 use Rattle.pim_words.specs.declared.command.LevelWord.{LevelWord}
 use Rattle.pim_words.specs.declared.command.TargetWord.{TargetWord}
 use Rattle.pim_words.specs.declared.command.FillWord.TheVariants as word
+use Rattle.pim_words.specs.declared.command.LevelWord.TheVariants as levels
+use Rattle.pim_words.specs.declared.command.TargetWord.TheVariants as targets
 use Rattle.pim_top.specs.Compiled.{CompilesWhole, CompilesInPart}
 use Rattle.pim_top.specs.Cuts.{Cuts}
 use Rattle.pim_top.specs.Netlists.{net_of, IsFault}
 use Rattle.pim_top.specs.Notes.{IsNoted, note}
 use Rattle.pim_top.specs.Refusals.{CompileRefuses}
-use Rattle.pim_top.specs.Runs.{IsFileFault, RunRefuses, RunsInPart, RunsWhole}
+use Rattle.pim_top.specs.Runs.{IsFileFault, IsIdle, IsOfFile, RunRefuses, RunsInPart, RunsWhole}
 use Rattle.pim_top.specs.Statuses.{status_of}
 use Rattle.pim_vectors.specs.Lines.{lines}
 use Rattle.pim_top.specs.Vectors.{AreVectors, verdict}
@@ -30,6 +36,14 @@ use Rattle.pim_top.specs.declared.refusal.Origin.TheVariants as origin
 use Rattle.pim_top.specs.declared.refusal.Refusal.{Refusal}
 use Rattle.pim_top.specs.declared.refusal.Refusal.TheVariants as refusal
 use Rattle.pim_top.specs.declared.status.Status.{Status}
+
+-- the machine that a word of `--target` names
+abbrev pub target_of : TargetWord → Target
+target_of targets.Magic = machines.Magic
+
+-- the effort that a word of `--level` names
+abbrev pub level_of : LevelWord → Level
+level_of levels.Zero = efforts.Zero
 
 -- the filling that a word of `--fill` names
 abbrev pub fill_of : FillWord → Fill
@@ -83,13 +97,14 @@ IsCounted file_before file_now left_before left_now taken_before taken_now refus
 IsCounted file_before file_now left_before left_now taken_before taken_now r = Unit {0}
 
 -- a call that ended with this status had a refusal of that status, which is explained; a fault of the outside that it names
--- was counted, and its note was written
+-- was counted, and its note was written; where it comes of a program file, no vector was taken and nothing was written
 pub record IsRefused (words : List (List ℕ)) (file_before file_now left_before left_now taken_before taken_now : Option (List ℕ)) (file_faults file_faults_now left_faults left_faults_now taken_faults taken_faults_now : ℕ) (noted_before noted_now : Option (List ℕ)) (note_faults note_faults_now : ℕ) (status : Status) : Type 0 where
   pub refusal : Refusal
   pub ends : status_of refusal ≡ status
   pub explained : IsExplained words file_before file_now left_before left_now taken_before taken_now refusal
   pub counted : IsCounted file_faults file_faults_now left_faults left_faults_now taken_faults taken_faults_now refusal
   pub noted : IsNoted noted_before noted_now note_faults note_faults_now (note refusal)
+  pub idle : IsOfFile refusal → IsIdle left_before left_now taken_before taken_now
 
 -- the command is `run`
 abbrev pub is_run : Option Command → Bool

@@ -43,6 +43,14 @@ IsFileFault file.NoMemory = ⊥
 abbrev pub IsIdle : Option (List ℕ) → Option (List ℕ) → Option (List ℕ) → Option (List ℕ) → Type 0
 IsIdle left_before left_now taken_before taken_now = (left_now ≡ left_before) × (taken_now ≡ taken_before)
 
+-- a refusal that comes of a program file: of its source or of its text
+abbrev pub IsOfFile : Refusal → Type 0
+IsOfFile (refusal.ReadFault origin.Program) = Unit {0}
+IsOfFile (refusal.TooLarge (limit.Bytes origin.Program)) = Unit {0}
+IsOfFile (refusal.TooLarge limit.Cells) = Unit {0}
+IsOfFile (refusal.File fault) = Unit {0}
+IsOfFile r = ⊥
+
 -- a refusal of the program alone says this of its bytes
 abbrev pub FileRefuses : Option (List ℕ) → Option (List ℕ) → Refusal → Type 0
 FileRefuses file_before file_now refusal.Usage = Unit {0}
@@ -51,7 +59,8 @@ FileRefuses file_before file_now (refusal.ReadFault origin.Input) = ⊥
 FileRefuses file_before file_now refusal.WriteFault = ⊥
 FileRefuses file_before file_now refusal.NoMemory = Unit {0}
 FileRefuses file_before file_now (refusal.TooFewCells needed) = ⊥
-FileRefuses file_before file_now (refusal.TooLarge limit.Bytes) = Told file_before file_now (λ text rest. 536870912 < length text)
+FileRefuses file_before file_now (refusal.TooLarge (limit.Bytes origin.Program)) = Told file_before file_now (λ text rest. 536870912 < length text)
+FileRefuses file_before file_now (refusal.TooLarge (limit.Bytes origin.Input)) = ⊥
 FileRefuses file_before file_now (refusal.TooLarge limit.Nodes) = ⊥
 FileRefuses file_before file_now (refusal.TooLarge limit.Rows) = ⊥
 FileRefuses file_before file_now (refusal.TooLarge limit.Cells) =
@@ -65,7 +74,8 @@ FileRefuses file_before file_now (refusal.Vector n) = ⊥
 -- a refusal of a vector, of the vectors' source or of the output, where this is the program
 abbrev pub VectorsRefuse : ProgramView → Fill → List ℕ → List ℕ → List ℕ → List ℕ → Refusal → Type 0
 VectorsRefuse p fill bytes rest before after refusal.WriteFault = RanInPart p fill bytes before after
-VectorsRefuse p fill bytes rest before after (refusal.ReadFault origin) = StoppedAt p fill bytes rest before after
+VectorsRefuse p fill bytes rest before after (refusal.ReadFault origin.Program) = ⊥
+VectorsRefuse p fill bytes rest before after (refusal.ReadFault origin.Input) = StoppedAt p fill bytes rest before after
 VectorsRefuse p fill bytes rest before after r = RefusedAt p fill bytes before after r
 
 -- a refusal of `run`: of its program, and then nothing was done; or of a vector or the outside

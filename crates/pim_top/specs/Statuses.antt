@@ -1,10 +1,22 @@
 -- Statuses, and the refusals that end with them.
+use Rattle.std.specs.Prelude.{ℕ}
 use Rattle.pim_words.specs.declared.fault.WordsFault.{WordsFault}
 use Rattle.pim_words.specs.declared.fault.WordsFault.TheVariants as fault
 use Rattle.pim_top.specs.declared.refusal.Refusal.{Refusal}
 use Rattle.pim_top.specs.declared.refusal.Refusal.TheVariants as refusal
 use Rattle.pim_top.specs.declared.status.Status.{Status}
 use Rattle.pim_top.specs.declared.status.Status.TheVariants as status
+
+-- the exit status: 0 where all was done, and else 1 to 7
+abbrev pub code_of : Status → ℕ
+code_of status.Done = 0
+code_of status.BadInput = 1
+code_of status.Usage = 2
+code_of status.ReadFault = 3
+code_of status.WriteFault = 4
+code_of status.NoMemory = 5
+code_of status.TooFewCells = 6
+code_of status.TooLarge = 7
 
 -- the status that a refusal ends with
 abbrev pub status_of : Refusal → Status

@@ -5,6 +5,7 @@ use Rattle.pim_isa.specs.Programs.{ProgramView}
 use Rattle.pim_io.specs.Bits.{bits_of}
 use Rattle.pim_batch.specs.Tables.{table, tile_rows}
 use Rattle.pim_isa.specs.declared.target.Fill.{Fill}
+use Rattle.pim_vectors.specs.declared.limits.TheConstants.{MAX_BYTES}
 use Rattle.pim_vectors.specs.Lines.{line_len, lines}
 use Rattle.pim_vectors.specs.Next.{next_of}
 use Rattle.pim_vectors.specs.declared.fault.LinesFault.{LinesFault}
@@ -43,7 +44,7 @@ verdict_of inputs n (Ok (Some line)) = if is_vector inputs line then Ok (Some li
 verdict_of inputs n (Err fault.Fault) = Err (refusal.ReadFault Input)
 verdict_of inputs n (Err (fault.Long k)) = Err (refusal.Vector k)
 verdict_of inputs n (Err fault.TooMany) = Err (refusal.TooLarge limit.Rows)
-verdict_of inputs n (Err fault.TooLong) = Err (refusal.TooLarge limit.Bytes)
+verdict_of inputs n (Err fault.TooLong) = Err (refusal.TooLarge (limit.Bytes Input))
 
 -- the same of the line behind the first n of the bytes
 unfoldable pub verdict : ℕ → List ℕ → ℕ → Result (Option (List ℕ)) Refusal
@@ -76,13 +77,16 @@ pub record RefusedAt (p : ProgramView) (fill : Fill) (bytes before after : List 
   pub tiles : RanTiles p fill bytes before after count
   pub refused : verdict (length p.inputs) bytes count ≡ Err r
 
--- the same, where the source failed before the next line was whole
+-- the same, where the source failed before the next line was whole: too few of its bytes were taken to refuse it, and of all
+-- bytes no more than the limit allows
 pub record StoppedAt (p : ProgramView) (fill : Fill) (bytes rest before after : List ℕ) : Type 0 where
   pub count : ℕ
   pub tiles : RanTiles p fill bytes before after count
   pub held : List ℕ
   pub taken : after_lines count bytes ≡ held ++ rest
   pub waits : line_len held ≡ length held
+  pub short : length held < length p.inputs + 2
+  pub within : length bytes ≤ length rest + MAX_BYTES
 
 -- the output took the front of the result lines of the first vectors
 pub record RanInPart (p : ProgramView) (fill : Fill) (bytes before after : List ℕ) : Type 0 where

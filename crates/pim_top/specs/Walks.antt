@@ -7,7 +7,7 @@ use Rattle.pim_batch.specs.Batches.{BatchView}
 use Rattle.pim_batch.specs.Tables.{table, tile_rows}
 use Rattle.pim_vectors.specs.declared.limits.TheConstants.{MAX_LINES}
 use Rattle.pim_vectors.specs.Lines.{line_len, lines}
-use Rattle.pim_vectors.specs.Next.{LinesView, next_of}
+use Rattle.pim_vectors.specs.Next.{IsWaiting, LinesView, next_of}
 use Rattle.pim_vectors.specs.declared.fault.LinesFault.{LinesFault}
 use Rattle.pim_vectors.specs.declared.fault.LinesFault.TheVariants as fault
 use Rattle.pim_top.specs.Vectors.{AreVectors, RanWhole, after_lines, vectors_of, verdict_of}
@@ -37,7 +37,7 @@ abbrev pub lines_refusal : LinesFault → Refusal
 lines_refusal fault.Fault = refusal.ReadFault origin.Input
 lines_refusal (fault.Long n) = refusal.Vector n
 lines_refusal fault.TooMany = refusal.TooLarge limit.Rows
-lines_refusal fault.TooLong = refusal.TooLarge limit.Bytes
+lines_refusal fault.TooLong = refusal.TooLarge (limit.Bytes origin.Input)
 
 -- a refusal that comes of vectors, of their source or of the output
 abbrev pub IsOfVectors : Refusal → Type 0
@@ -45,7 +45,7 @@ IsOfVectors refusal.WriteFault = Unit {0}
 IsOfVectors (refusal.Vector n) = Unit {0}
 IsOfVectors (refusal.ReadFault origin.Input) = Unit {0}
 IsOfVectors (refusal.TooLarge limit.Rows) = Unit {0}
-IsOfVectors (refusal.TooLarge limit.Bytes) = Unit {0}
+IsOfVectors (refusal.TooLarge (limit.Bytes origin.Input)) = Unit {0}
 IsOfVectors r = ⊥
 
 -- what is said of the next line, where the source has these bytes left
@@ -75,15 +75,22 @@ abbrev pub Goes : Bool → WalkView → List ℕ → List ℕ → WalkView → T
 Goes true old left rest new = TakesUp old left rest new
 Goes false old left rest new = Ends old left rest new
 
--- why no vector was packed: the source failed, and holds no whole line; or what is said of the line
+-- the source failed, and it isn't known yet what the next line is
+pub record Halts (old : WalkView) (left rest : List ℕ) (new : WalkView) : Type 0 where
+  pub kept : new.lines.held ++ rest ≡ old.lines.held ++ left
+  pub longest : new.lines.longest ≡ old.lines.longest
+  pub place : new.lines.place + length (new.lines.held ++ rest) ≡ old.lines.place + length (old.lines.held ++ left)
+  pub waits : IsWaiting new.lines
+
+-- why no vector was packed: the source of the vectors failed, or what is said of the line
 abbrev pub Stops : WalkView → List ℕ → List ℕ → WalkView → Refusal → Type 0
-Stops old left rest new (refusal.ReadFault origin) =
-    (new.lines.held ++ rest ≡ old.lines.held ++ left) × (line_len new.lines.held ≡ length new.lines.held)
+Stops old left rest new (refusal.ReadFault origin.Program) = ⊥
+Stops old left rest new (refusal.ReadFault origin.Input) = Halts old left rest new
 Stops old left rest new r = says old left ≡ Err r
 
--- one line more was taken, and no more than the limit allows
+-- one line more was taken, and before it no more than the limit allows
 abbrev pub IsFurther : WalkView → WalkView → Type 0
-IsFurther old new = (new.lines.given ≡ old.lines.given + 1) × (new.lines.given ≤ MAX_LINES)
+IsFurther old new = (new.lines.given ≡ old.lines.given + 1) × (old.lines.given ≤ MAX_LINES)
 
 -- where a walk over the lines of the bytes stands, of which some are left in the source: the vectors that were written,
 -- those that are packed, and those of the lines that follow

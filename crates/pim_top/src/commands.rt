@@ -1,4 +1,4 @@
-//! The commands. What writes its text whole is a function from bytes and options to that text or a refusal.
+//! The commands. Each reads its sources and writes its output, or gives the refusal that it comes to.
 
 pub mod compile;
 pub mod run;

@@ -22,7 +22,7 @@ pub(crate) fn bytes_of<S: Source>(
     match read_all(alloc, source, limit) {
         Ok(bytes) => Ok(bytes),
         Err(ReadAllFault::Fault) => Err(Refusal::ReadFault(origin)),
-        Err(ReadAllFault::TooLong) => Err(Refusal::TooLarge(Limit::Bytes)),
+        Err(ReadAllFault::TooLong) => Err(Refusal::TooLarge(Limit::Bytes(origin))),
         Err(ReadAllFault::NoMemory) => Err(Refusal::NoMemory),
     }
 }

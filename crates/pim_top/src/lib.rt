@@ -1,5 +1,6 @@
-//! The one public call of the tool, [`pim`]: from words, sources and sinks to a status. Each command is a pure function
-//! from bytes and options to a text or a refusal; reading, writing and noting are done once, round it.
+//! The one public call of the tool, [`pim`]: from words, sources and sinks to a status. Each command reads its sources and
+//! writes its output, and gives a refusal where it can't; what `compile` writes is a function of its bytes and options, and
+//! `run` goes on by one line at a time. The note of a refusal is written once, for all commands.
 #![tactic(auto)]
 
 mod commands;
@@ -13,4 +14,4 @@ mod walk;
 
 pub use pim_words::program_word;
 pub use status::Status;
-pub use top::pim;
+pub use top::{no_memory, pim};

@@ -275,7 +275,7 @@ fn limit_word(limit: Limit) -> &'static [u8]
     ensures { result.now ≡ limit_word limit }
 {
     match limit {
-        Limit::Bytes => b"bytes",
+        Limit::Bytes(_) => b"bytes",
         Limit::Nodes => b"nodes",
         Limit::Rows => b"rows",
         Limit::Cells => b"cells",

@@ -1,4 +1,4 @@
-//! Why a command wrote nothing, with the evidence that its note names.
+//! Why a command was not done, with the evidence that its note names.
 ghost use Rattle.std.specs.Prelude.{◌≡◌};
 ghost use Rattle.pim_top.specs.Statuses.{status_of, words_refusal, IsInner};
 ghost use Rattle.pim_top.specs.Refusals.{aiger_refusal, blif_refusal, file_refusal, netlist_refusal};
@@ -11,11 +11,18 @@ use pim_file::FileFault;
 use pim_net::{Kind, NetFault};
 use pim_words::WordsFault;
 
+/// A source that a command reads.
+#[derive(Clone, Copy, Debug, PartialEq, Eq)]
+pub enum Origin {
+    Program,
+    Input,
+}
+
 /// A limit of the tool that an input passed.
 #[derive(Clone, Copy, Debug, PartialEq, Eq)]
 pub enum Limit {
-    /// The bytes of the input.
-    Bytes,
+    /// The bytes of a source.
+    Bytes(Origin),
     /// The AND nodes of the flat graph.
     Nodes,
     /// The lines of vectors.
@@ -26,14 +33,7 @@ pub enum Limit {
     Netlist(Kind),
 }
 
-/// Which source could not be read.
-#[derive(Clone, Copy, Debug, PartialEq, Eq)]
-pub enum Origin {
-    Program,
-    Input,
-}
-
-/// Why a command ended without its text, with the place or number that the note names.
+/// Why a command ended before all was written, with the place or number that the note names.
 #[derive(Debug, Drop)]
 pub enum Refusal {
     Usage,

@@ -1,4 +1,6 @@
 //! How a call ends.
+ghost use Rattle.std.specs.Prelude.{◌≡◌};
+ghost use Rattle.pim_top.specs.Statuses.{code_of};
 
 /// How a call of [`pim`](crate::pim) ended. Its number is the exit status of the program.
 #[derive(Clone, Copy, Debug, PartialEq, Eq)]
@@ -23,7 +25,9 @@ pub enum Status {
 
 impl Status {
     /// The exit status: 0 for `Done`, and then 1 to 7 in the order of the variants.
-    pub fn code(self) -> u8 {
+    pub fn code(self) -> u8
+        ensures { result ≡ code_of self }
+    {
         self as u8
     }
 }

@@ -6,7 +6,9 @@ ghost use Rattle.pim_isa.specs.declared.target.Fill.{Fill};
 ghost use Rattle.pim_words.specs.Plain.{IsPlain};
 ghost use Rattle.pim_words.specs.Reading.{is_usage};
 ghost use Rattle.pim_words.specs.declared.command.Command.{Command};
-ghost use Rattle.pim_top.specs.Outcomes.{IsCounted, IsCut, IsDone, IsExplained, IsFaulty, IsFaultyFile, IsFine, IsFineRun, IsRefused, IsRefusedRun, fill_of, says_run};
+ghost use Rattle.pim_top.specs.Outcomes.{IsCounted, IsCut, IsDone, IsExplained, IsFaulty, IsFaultyFile, IsFine, IsFineRun, IsRefused, IsRefusedRun, fill_of, level_of, says_run, target_of};
+ghost use Rattle.pim_top.specs.Notes.{IsNoted, note};
+ghost use Rattle.pim_top.specs.Runs.{IsIdle, IsOfFile};
 ghost use Rattle.pim_top.specs.Statuses.{status_of};
 
 use crate::Status;
@@ -93,6 +95,16 @@ pub fn pim<P: Source, S: Source, K: Sink, E: Sink>(
     }
 }
 
+/// Ends a call for whose words there is no memory: writes the note of that, and gives its status.
+pub fn no_memory<E: Sink>(notes: &mut E) -> Status
+    ensures status { result ≡ Status.NoMemory }
+    ensures noted { IsNoted (E.taken notes.old) (E.taken notes.new) (E.faults notes.old) (E.faults notes.new) (note Refusal.NoMemory) }
+{
+    let refusal = Refusal::NoMemory;
+    tell(&refusal, notes);
+    refusal.status()
+}
+
 /// Reads the words, and does what their command does.
 fn obey<P: Source, S: Source, K: Sink>(
     alloc: Global,
@@ -118,6 +130,8 @@ fn obey<P: Source, S: Source, K: Sink>(
     ensures usage { IfErr result (λ refusal. status_of refusal ≡ Status.Usage → is_usage (map string_bytes words.now) ≡ true) }
     ensures accepted { IfErr result (λ refusal. status_of refusal ≢ Status.Usage → status_of refusal ≢ Status.NoMemory → is_usage (map string_bytes words.now) ≡ false) }
     ensures plain { IfErr result (λ refusal. (command : Command) → IsPlain command (map string_bytes words.now) → status_of refusal ≢ Status.Usage) }
+    ensures idle { IfErr result (λ refusal. IsOfFile refusal
+        → IsIdle (S.left input.old) (S.left input.new) (K.taken output.old) (K.taken output.new)) }
     ensures valid { OnOk result (is_usage (map string_bytes words.now) ≡ false) }
     ensures ends { IfErr result (λ refusal. status_of refusal ≢ Status.Done) }
 {
@@ -143,14 +157,18 @@ fn obey<P: Source, S: Source, K: Sink>(
 }
 
 /// The machine that a word of `--target` names.
-fn target_of(word: TargetWord) -> Target {
+fn target_of(word: TargetWord) -> Target
+    ensures { result ≡ target_of word }
+{
     match word {
         TargetWord::Magic => Target::Magic,
     }
 }
 
 /// The effort that a word of `--level` names.
-fn level_of(word: LevelWord) -> Level {
+fn level_of(word: LevelWord) -> Level
+    ensures { result ≡ level_of word }
+{
     match word {
         LevelWord::Zero => Level::Zero,
     }

@@ -146,9 +146,6 @@ impl<'a> Walk<'a> {
                     return Err(Refusal::Vector(number));
                 }
                 self.batch.push(line);
-
-                // It tells that there are no more lines than the limit allows.
-                let _given = self.lines.given();
                 Ok(true)
             }
             Err(fault) => Err(of_lines(fault)),
@@ -164,6 +161,6 @@ fn of_lines(fault: LinesFault) -> Refusal
         LinesFault::Fault => Refusal::ReadFault(Origin::Input),
         LinesFault::Long(line) => Refusal::Vector(line),
         LinesFault::TooMany => Refusal::TooLarge(Limit::Rows),
-        LinesFault::TooLong => Refusal::TooLarge(Limit::Bytes),
+        LinesFault::TooLong => Refusal::TooLarge(Limit::Bytes(Origin::Input)),
     }
 }

@@ -1,5 +1,5 @@
 -- The state after an answer.
-use Rattle.std.proofs.Common.{◌≡◌, ℕ, ◌+◌, ◌-◌, ◌≤◌, ◌&&◌, cond, ltb, List, [], ◌∷◌, ◌++◌, length, take, drop, Option, Some, None, Result, Ok, Err, refl, sym, ap, ◌∙◌, arith}
+use Rattle.std.proofs.Common.{◌≡◌, ℕ, ◌+◌, ◌-◌, ◌<◌, ◌≤◌, ◌&&◌, cond, ltb, List, [], ◌∷◌, ◌++◌, length, take, drop, Option, Some, None, Result, Ok, Err, refl, sym, ap, ◌∙◌, arith}
 use Rattle.std.specs.Borrow.{Bor}
 use Rattle.std.proofs.lemmas.List.{length-append, length-drop, length-take, take-take, drop-take, drop-drop}
 use Rattle.pim_io.specs.Outside.{Told}
@@ -52,14 +52,16 @@ fault_of_err : (r : Result (Option (Bor (List ℕ))) LinesFault) (e f : LinesFau
 fault_of_err r e f h k = cc
 
 pub after_refused : (old v : LinesView) (a b : Option (List ℕ)) (e : LinesFault) → Took old a b v → (e ≡ faults.Fault → NoNewline v.held (length v.held)) →
-    IsAfter old a b (Err e) v
-after_refused old v a b e took waits = record {
+    (e ≡ faults.Fault → length v.held < v.longest + 2) → (e ≡ faults.Fault → v.place + length v.held ≤ MAX_BYTES) → IsAfter old a b (Err e) v
+after_refused old v a b e took waits short within = record {
   longest = took.longest;
   given = omega (arith, took.given);
   rest = took.bytes;
   place = same_place old v a b took;
   cut = told_map a b (λ x y. v.held ++ y ≡ old.held ++ x) (λ x y. Unit {0}) (λ x y h. tt) took.bytes;
-  waits = λ h. line_len-none v.held (waits (fault_of_err (Err e) e faults.Fault refl h));
+  waits = λ h.
+      let is = fault_of_err (Err e) e faults.Fault refl h in
+      record { none = line_len-none v.held (waits is); short = short is; within = within is };
 }
 
 pub after_end : (old v : LinesView) (a b : Option (List ℕ)) → Took old a b v → IsEnd v a b → IsAfter old a b (Ok None) v

@@ -65,6 +65,12 @@ abbrev pub CutsLines : Result (Option (Bor (List ℕ))) LinesFault → List ℕ 
 CutsLines (Ok line) bytes rest = lines bytes ≡ option_to_list (option_copied line) ++ lines rest
 CutsLines (Err e) bytes rest = Unit {0}
 
+-- a source that failed leaves no whole line, and of the next line too few bytes to refuse it
+pub record IsWaiting (v : LinesView) : Type 0 where
+  pub none : line_len v.held ≡ length v.held
+  pub short : length v.held < v.longest + 2
+  pub within : v.place + length v.held ≤ MAX_BYTES
+
 -- the state after an answer, where the source had the bytes `before` left, and has `now`, if it tells them
 pub record IsAfter (old : LinesView) (before now : Option (List ℕ)) (result : Result (Option (Bor (List ℕ))) LinesFault) (new : LinesView) : Type 0 where
   pub longest : new.longest ≡ old.longest
@@ -72,7 +78,7 @@ pub record IsAfter (old : LinesView) (before now : Option (List ℕ)) (result : 
   pub rest : Told before now (λ b n. new.held ++ n ≡ rest_after result (old.held ++ b))
   pub place : Told before now (λ b n. new.place + length (new.held ++ n) ≡ old.place + length (old.held ++ b))
   pub cut : Told before now (λ b n. CutsLines result (old.held ++ b) (new.held ++ n))
-  pub waits : result ≡ Err faults.Fault → line_len new.held ≡ length new.held
+  pub waits : result ≡ Err faults.Fault → IsWaiting new
 
 -- ---- what stands next among the bytes that were taken
 -- the bytes of a line without its end, and the bytes of a last piece

@@ -79,7 +79,7 @@ impl Lines {
     /// were taken are handed out before more bytes are. A last piece without a newline is a line, if it isn't empty. The faults:
     /// `Long` of a line of more bytes than the longest, once its end or two more than the longest of its bytes were taken; `TooMany`
     /// in place of line `MAX_LINES` + 1; `TooLong` where more than `MAX_BYTES` bytes were taken and no line or other fault stands
-    /// before the last of these; `Fault` where a read failed. Takes no memory. Linear in the bytes.
+    /// before the last of these; `Fault` where a read failed before one of these was known. Takes no memory. Linear in the bytes.
     pub fn next<S: Source>(&mut self, source: &mut S) -> Result<Option<&[u8]>, LinesFault>
         ensures line { IfOk result (λ line. Told (S.left source.old) (S.left source.new)
             (λ before now. next_of self.old (self.old.held ++ before) ≡ Ok (option_copied line))) }
@@ -147,6 +147,8 @@ impl Lines {
         ensures refused { IfErr result (λ fault. fault ≢ LinesFault.Fault
             → Told (S.left source.old) (S.left source.new) (λ before now. next_of self.new (self.new.held ++ now) ≡ Err fault)) }
         ensures waits { result ≡ Err LinesFault.Fault → NoNewline self.new.held (length self.new.held) }
+        ensures short { result ≡ Err LinesFault.Fault → length self.new.held < self.new.longest + 2 }
+        ensures limit { result ≡ Err LinesFault.Fault → self.new.place + length self.new.held ≤ MAX_BYTES }
         ensures counted { result ≡ Err LinesFault.Fault → Rose (S.faults source.old) (S.faults source.new) }
         ensures never_falls { S.faults source.old ≤ S.faults source.new }
         ensures unread { line_len self.old.held < length self.old.held → source.new ≡ source.old }
@@ -206,6 +208,8 @@ impl Lines {
         ensures over { result ≡ Err LinesFault.TooLong → IsOver self.new }
         ensures faults { IfErr result (λ fault. (fault ≡ LinesFault.Fault) ⊎ (fault ≡ LinesFault.TooLong)) }
         ensures waits { result ≡ Err LinesFault.Fault → NoNewline self.new.held (length self.new.held) }
+        ensures short { result ≡ Err LinesFault.Fault → length self.new.held < self.new.longest + 2 }
+        ensures limit { result ≡ Err LinesFault.Fault → self.new.place + length self.new.held ≤ MAX_BYTES }
         ensures counted { result ≡ Err LinesFault.Fault → Rose (S.faults source.old) (S.faults source.new) }
         ensures never_falls { S.faults source.old ≤ S.faults source.new }
         ensures unread { line_len self.old.held < length self.old.held → source.new ≡ source.old }

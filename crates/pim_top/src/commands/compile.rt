@@ -5,6 +5,7 @@ ghost use Rattle.pim_isa.specs.declared.draft.TheConstants.{MAX_CELLS};
 ghost use Rattle.pim_top.specs.Compiled.{Compiled, CompilesWhole};
 ghost use Rattle.pim_top.specs.Refusals.{compile_refusal, CompileRefuses, Explains};
 ghost use Rattle.pim_top.specs.Cuts.{Cuts};
+ghost use Rattle.pim_top.specs.Runs.{IsOfFile};
 ghost use Rattle.pim_top.specs.Statuses.{IsInner};
 
 use crate::input::bytes_of;
@@ -43,6 +44,7 @@ pub fn compile_input<S: Source, K: Sink>(
         → (o ≡ Origin.Input) × Rose (S.faults input.old) (S.faults input.new)) }
     ensures write_fault { IfErr result (λ refusal. refusal ≡ Refusal.WriteFault → Rose (K.faults output.old) (K.faults output.new)) }
     ensures inside { IfErr result (λ refusal. refusal ≢ Refusal.Usage) }
+    ensures apart { IfErr result (λ refusal. ¬ IsOfFile refusal) }
 {
     let bytes = bytes_of(alloc, input, Origin::Input, INPUT_BYTES)?;
     let text = text(alloc, bytes.as_slice(), options)?;

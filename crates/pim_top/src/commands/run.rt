@@ -2,7 +2,7 @@
 ghost use Rattle.std.specs.Prelude.{◌≡◌, ◌≢◌, Ok, IfErr, IfOk, OnOk};
 ghost use Rattle.pim_io.specs.Outside.{Rose, Told};
 ghost use Rattle.pim_file.specs.ProgramFile.{parse1_of};
-ghost use Rattle.pim_top.specs.Runs.{FileRead, FileRefuses, RunRefuses, RunsWhole};
+ghost use Rattle.pim_top.specs.Runs.{FileRead, FileRefuses, IsIdle, IsOfFile, RunRefuses, RunsWhole};
 ghost use Rattle.pim_top.specs.Statuses.{status_of};
 ghost use Rattle.pim_top.specs.Outcomes.{IsCounted};
 
@@ -36,6 +36,8 @@ pub fn run<P: Source, S: Source, K: Sink>(
         (S.faults input.old) (S.faults input.new) (K.faults output.old) (K.faults output.new)) }
     ensures early { IfErr result (λ refusal. status_of refusal ≡ Status.NoMemory
         → (S.left input.new ≡ S.left input.old) × (K.taken output.new ≡ K.taken output.old)) }
+    ensures idle { IfErr result (λ refusal. IsOfFile refusal
+        → IsIdle (S.left input.old) (S.left input.new) (K.taken output.old) (K.taken output.new)) }
     ensures inside { IfErr result (λ refusal. refusal ≢ Refusal.Usage) }
 {
     let program = program_of(alloc, program)?;

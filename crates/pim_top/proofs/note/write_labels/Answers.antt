@@ -2,7 +2,7 @@ use Rattle.std.proofs.Common.{◌≡◌, ℕ, zero, suc, ◌+◌, ◌<◌, List,
 use Rattle.std.proofs.lemmas.Result.{err_from_is_err_and}
 use Rattle.pim_io.specs.Outside.{TookAll, TookFirst}
 use Rattle.pim_top.specs.Notes.{cycle_labels, label_of}
-use Rattle.pim_top.proofs.Took.{took-both, then-first, first-more}
+use Rattle.pim_batch.proofs.Took.{took_both, then_first, first_more}
 use Rattle.pim_top.proofs.note.write_labels.Goals as goal
 
 -- the label at place k comes before those that follow
@@ -36,10 +36,10 @@ loop-signal-preserved g c =
       never_falls = omega (arith, c.in_ok-write_both.ensures.never_falls, c.loop-signal.invariant.never_falls);
       whole = λ after h. c.loop-signal.invariant.whole after
           (let F : List ℕ → Type 0 = λ t. TookAll now after t in
-          subst F (sym line) (took-both now next after (codes " " ++ label) rest c.in_ok-write_both.ensures.whole h));
+          subst F (sym line) (took_both now next after (codes " " ++ label) rest c.in_ok-write_both.ensures.whole h));
       prefix = λ after h. c.loop-signal.invariant.prefix after
           (let F : List ℕ → Type 0 = λ t. TookFirst now after t in
-          subst F (sym line) (then-first now next after (codes " " ++ label) rest c.in_ok-write_both.ensures.whole h));
+          subst F (sym line) (then_first now next after (codes " " ++ label) rest c.in_ok-write_both.ensures.whole h));
     }
 
 pub returns-in_err-write_both-clause-prefix : goal.returns-in_err-write_both-clause-prefix
@@ -57,4 +57,4 @@ returns-in_err-write_both-clause-prefix g c =
     let p = err_from_is_err_and c.from_residual.result c.from_residual.ensures.1 in
     rw p.1
     (c.loop-signal.invariant.prefix next
-    (subst F (sym line) (first-more now next (codes " " ++ label) rest c.in_err-write_both.ensures.prefix)))
+    (subst F (sym line) (first_more now next (codes " " ++ label) rest c.in_err-write_both.ensures.prefix)))

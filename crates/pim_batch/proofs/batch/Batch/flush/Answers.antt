@@ -3,8 +3,18 @@ use Rattle.std.proofs.lemmas.Result.{err_from_is_err_and}
 use Rattle.pim_io.specs.Outside.{TookAll, TookFirst}
 use Rattle.pim_batch.specs.Tables.{table}
 use Rattle.pim_batch.specs.Batches.{row_lines}
-use Rattle.pim_batch.proofs.BatchLemmas.{table_is}
+use Rattle.pim_batch.proofs.BatchLemmas.{none_emptied, none_packed, none_taken, table_is}
 use Rattle.pim_batch.proofs.batch.Batch.flush.Goals as goal
+
+pub returns-then-self-eq0-clause-whole : goal.returns-then-self-eq0-clause-whole
+returns-then-self-eq0-clause-whole g c =
+    none_taken (g.K.Sink.taken c.args.output.now) c.args.self.now
+    (none_packed _ c.args.self.now c.self.inside.vectors c.self.inside.rows c.self.view_is refl c.if-self-eq0.true)
+
+pub returns-then-self-eq0-clause-emptied : goal.returns-then-self-eq0-clause-emptied
+returns-then-self-eq0-clause-emptied g c =
+    none_emptied c.args.self.now
+    (none_packed _ c.args.self.now c.self.inside.vectors c.self.inside.rows c.self.view_is refl c.if-self-eq0.true)
 
 pub returns-in_err-write_results-clause-prefix : goal.returns-in_err-write_results-clause-prefix
 returns-in_err-write_results-clause-prefix g c =

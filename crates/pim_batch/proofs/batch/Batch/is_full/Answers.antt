@@ -4,7 +4,7 @@ use Rattle.pim_batch.proofs.batch.Batch.is_full.Goals as goal
 
 pub returns-clause-full : goal.returns-clause-full
 returns-clause-full c =
-    is_full _ c.args.self.now c.self.inside.vectors c.self.inside.rows c.tile_words.result c.self.view_is refl c.tile_words.ensures
+    is_full _ c.args.self.now c.self.inside.vectors c.self.inside.rows c.self.inside.most c.self.view_is refl c.self.invariant.most
 
 pub returns-clause-within : goal.returns-clause-within
 returns-clause-within c =

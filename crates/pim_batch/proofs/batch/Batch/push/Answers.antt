@@ -23,6 +23,7 @@ invariant_of-self c =
       result_words = before.result_words;
       line_room = before.line_room;
       row_room = omega arith;
+      most = before.most;
     }
 
 pub returns : goal.returns

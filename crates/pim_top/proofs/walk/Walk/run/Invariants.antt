@@ -17,4 +17,4 @@ invariant-loop-more g l = record {
 }
 
 abbrev pub decreases-loop-more : goal.decreases-loop-more
-decreases-loop-more g l = cond l.more (1 + (MAX_LINES - l.self.lines.given)) 0
+decreases-loop-more g l = cond l.more (1 + (MAX_LINES + 1 - l.self.lines.given)) 0

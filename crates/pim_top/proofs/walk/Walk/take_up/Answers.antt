@@ -2,9 +2,9 @@ use Rattle.std.proofs.Common.{◌∙◌, refl, sym, ap, subst, List, ℕ, ◌+�
 use Rattle.std.specs.Borrow.{Bor}
 use Rattle.pim_io.specs.Outside.{Told}
 use Rattle.pim_vectors.specs.Tiles.{IsVector}
-use Rattle.pim_top.specs.Walks.{Ends, Stops, TakesUp, WalkView, width}
+use Rattle.pim_top.specs.Walks.{Ends, Stops, TakesUp, WalkView, lines_refusal, width}
 use Rattle.pim_top.specs.declared.refusal.Refusal.TheVariants as refusal
-use Rattle.pim_top.proofs.Walking.{after-same, ends-told, taken-told, unfit-told, vector-yes, vector-no}
+use Rattle.pim_top.proofs.Walking.{after-same, ends-told, failed-told, taken-told, unfit-told, vector-yes, vector-no}
 use Rattle.pim_top.proofs.walk.Walk.take_up.Goals as goal
 
 pub returns-in-Ok-None-clause-goes : goal.returns-in-Ok-None-clause-goes
@@ -45,3 +45,15 @@ returns-else-not-vector_fits-clause-goes g c =
     let fits = vector-yes (width old) line (subst (λ (n : ℕ). IsVector n line) c.self.invariant t) in
     subst (λ (w : WalkView). Told before now (λ left rest. TakesUp w left rest new)) c.self.view_is
     (taken-told before now old new c.in-Ok-Some.line (after-same i.lines before now _ _ _ (c.in-Ok-Some.is ∙ ap (λ (o : Option (Bor (List ℕ))). Ok o) c.in-Ok-Some.field-0-is) c.next.follows.holds-at-none) (rw c.in-Ok-Some.field-0-is at c.in-Ok-Some.ensures.line) fits c.push.ensures)
+
+pub returns-in-Err-clause-stops : goal.returns-in-Err-clause-stops
+returns-in-Err-clause-stops g c =
+    let i = c.self.inside in
+    let before = g.S.Source.left c.args.input.now in
+    let now = g.S.Source.left c.next.new.source in
+    let fault = c.in-Err.fault in
+    let old : WalkView = record { batch = i.batch; lines = i.lines } in
+    let new : WalkView = record { batch = i.batch; lines = c.next.follows.lender-at-none } in
+    rw c.of_lines.ensures
+    (subst (λ (w : WalkView). Told before now (λ left rest. Stops w left rest new (lines_refusal fault))) c.self.view_is
+    (failed-told before now old new fault (after-same i.lines before now _ _ _ c.in-Err.is c.next.follows.holds-at-none) c.in-Err.ensures.refused))

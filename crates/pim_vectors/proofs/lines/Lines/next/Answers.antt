@@ -9,7 +9,7 @@ returns-in_err-sizes g c =
     let p = err_from_is_err_and c.from_residual.result c.from_residual.ensures.1 in
     let sizes = c.in_err-sizes.ensures in
     rw (p.1, p.2) (
-      (refl, λ _. tt, after_refused c.args.self.now _ _ _ _ sizes.took (λ e. sizes.waits (ap Err e))),
+      (refl, λ _. tt, after_refused c.args.self.now _ _ _ _ sizes.took (λ e. sizes.waits (ap Err e)) (λ e. sizes.short (ap Err e)) (λ e. sizes.limit (ap Err e))),
       record {
         line = tt;
         refused = λ other. answer_before _ _ _ _ _ sizes.took (sizes.refused other);
