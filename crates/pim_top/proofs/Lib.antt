@@ -1,3 +1,4 @@
+pub mod Took
 pub mod FileRefusals
 pub mod Walking
 pub mod WalkSteps

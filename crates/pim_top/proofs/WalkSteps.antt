@@ -16,7 +16,7 @@ use Rattle.pim_top.specs.Walks.{Ends, IsRunning, IsWalk, Stops, TakesUp, WalkVie
 use Rattle.pim_top.specs.declared.refusal.Origin.TheVariants as origin
 use Rattle.pim_top.specs.declared.refusal.Refusal.{Refusal}
 use Rattle.pim_top.specs.declared.refusal.Refusal.TheVariants as refusal
-use Rattle.pim_batch.proofs.Took.{then_first}
+use Rattle.pim_top.proofs.Took.{then_first}
 use Rattle.pim_top.proofs.Walking.{refused-here, said-here, table-append, take-front, there, tiles-ran, told-map, walk-flushed, walk-more}
 
 -- some rows make a tile

@@ -1,5 +1,5 @@
 use Rattle.std.proofs.lemmas.Result.{err_from_is_err_and}
-use Rattle.pim_batch.proofs.Took.{then_first}
+use Rattle.pim_top.proofs.Took.{then_first}
 use Rattle.pim_top.proofs.note.write_both.Goals as goal
 
 pub returns-in_err-write_all-2-clause-prefix : goal.returns-in_err-write_all-2-clause-prefix

@@ -1,7 +1,7 @@
 use Rattle.std.proofs.lemmas.Result.{err_from_is_err_and}
 use Rattle.std.proofs.Common.{◌++◌, codes}
 use Rattle.pim_top.specs.Notes.{cycle_labels}
-use Rattle.pim_batch.proofs.Took.{took_both, then_first, first_more}
+use Rattle.pim_top.proofs.Took.{took_both, then_first, first_more}
 use Rattle.pim_top.proofs.note.write_cycle.Goals as goal
 
 pub returns-in_err-write_all-clause-prefix : goal.returns-in_err-write_all-clause-prefix

@@ -1,7 +1,7 @@
 use Rattle.std.proofs.Common.{◌++◌, codes, append_assoc}
 use Rattle.std.proofs.lemmas.Result.{err_from_is_err_and}
 use Rattle.std.specs.Fmt.{decimal}
-use Rattle.pim_batch.proofs.Took.{took_both, then_first, first_more}
+use Rattle.pim_top.proofs.Took.{took_both, then_first, first_more}
 use Rattle.pim_top.proofs.note.write_instruction.Goals as goal
 
 pub returns-in_err-write_all-clause-prefix : goal.returns-in_err-write_all-clause-prefix

@@ -2,7 +2,7 @@ use Rattle.std.proofs.Common.{◌≡◌, ℕ, zero, suc, ◌+◌, ◌<◌, List,
 use Rattle.std.proofs.lemmas.Result.{err_from_is_err_and}
 use Rattle.pim_io.specs.Outside.{TookAll, TookFirst}
 use Rattle.pim_top.specs.Notes.{cycle_labels, label_of}
-use Rattle.pim_batch.proofs.Took.{took_both, then_first, first_more}
+use Rattle.pim_top.proofs.Took.{took_both, then_first, first_more}
 use Rattle.pim_top.proofs.note.write_labels.Goals as goal
 
 -- the label at place k comes before those that follow
