@@ -1,4 +1,4 @@
--- How a graph is kept.
+-- Inner. How a graph is kept.
 use Rattle.std.specs.Prelude.{◌≡◌, ℕ, ◌<◌, ◌≤◌, false, List, length, map, take, slice_index_or}
 use Rattle.pim_graph.specs.Graphs.{GraphView, IsGraph, has}
 use Rattle.pim_graph.specs.declared.graph.Node.{Node}

@@ -1,6 +1,6 @@
 use Rattle.std.proofs.Common.{◌≡◌, ℕ, ◌+◌, ◌<◌, ◌^◌, All, drop, slice_index, vec_len}
 use Rattle.pim_graph.specs.Readers.{occurrences}
-use Rattle.pim_graph.proofs.sweep.count_reads.Given as goal
+use Rattle.pim_graph.proofs.readers.count_reads.Given as goal
 
 abbrev pub invariant-loop-child : goal.invariant-loop-child
 invariant-loop-child l = record {
