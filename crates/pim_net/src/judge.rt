@@ -1,7 +1,6 @@
 ghost use Rattle.std.specs.Prelude.{◌≡◌, ◌<◌, ◌≤◌, All, IfErr, MatchResult, ℕ, List, length};
 ghost use Rattle.pim_net.specs.Cycles.{IsCycle};
-ghost use Rattle.pim_net.specs.Faults.{IsRefusal};
-ghost use Rattle.pim_net.specs.Judged.{IsJudged};
+ghost use Rattle.pim_net.specs.inner.Judged.{IsJudged, IsRefusal};
 ghost use Rattle.pim_net.specs.declared.limits.TheConstants.{MAX_COLUMNS, MAX_EQUATIONS, MAX_SIGNALS};
 ghost use Rattle.pim_net.specs.declared.fault.NetFault.TheVariants.{Cycle};
 
