@@ -2,7 +2,7 @@ ghost use Rattle.std.specs.Prelude.{◌≡◌, ℕ, ◌+◌, ◌*◌, ◌/◌, �
 ghost use Rattle.std.specs.List.{range_with_len};
 ghost use Rattle.pim_io.specs.Lanes.{is_set, lane};
 ghost use Rattle.pim_io.specs.Bits.{digit_of};
-ghost use Rattle.pim_vectors.specs.Tiles.{lane_at};
+ghost use Rattle.pim_vectors.specs.inner.Cells.{lane_at};
 
 /// A word with one bit written.
 fn with_bit(word: u64, place: u32, bit: bool) -> u64
@@ -29,14 +29,14 @@ fn digit(bit: bool) -> u8
 }
 
 /// Writes one lane of one column.
-fn put_bit(buffer: &mut [u64], words: usize, column: usize, row: usize, bit: bool)
-    requires row { row < 64 * words }
+fn put_bit(buffer: &mut [u64], words: usize, column: usize, index: usize, bit: bool)
+    requires lane { index < 64 * words }
     requires column { column * words + words ≤ length buffer.old }
     ensures { (c r : ℕ) → r < 64 * words → lane_at words buffer.new c r
-        ≡ (if (c == column) && (r == row) then bit else lane_at words buffer.old c r) }
+        ≡ (if (c == column) && (r == index) then bit else lane_at words buffer.old c r) }
 {
-    let at = column * words + row / 64;
-    buffer[at] = with_bit(buffer[at], (row % 64) as u32, bit);
+    let at = column * words + index / 64;
+    buffer[at] = with_bit(buffer[at], (index % 64) as u32, bit);
 }
 
 /// Writes the words of one column.
@@ -51,25 +51,25 @@ pub(crate) fn put_column(buffer: &mut [u64], words: usize, column: usize, new: &
 }
 
 /// Writes the bits of a line of the characters `0` and `1` into one lane of each column.
-pub(crate) fn pack_row(buffer: &mut [u64], words: usize, row: usize, line: &[u8])
-    requires row { row < 64 * words }
+pub(crate) fn pack_lane(buffer: &mut [u64], words: usize, index: usize, line: &[u8])
+    requires lane { index < 64 * words }
     requires whole { length line.now * words ≤ length buffer.old }
     ensures { (c r : ℕ) → r < 64 * words → lane_at words buffer.new c r
-        ≡ (if nat_lt c (length line.now) && (r == row) then slice_index line.now c == 49 else lane_at words buffer.old c r) }
+        ≡ (if nat_lt c (length line.now) && (r == index) then slice_index line.now c == 49 else lane_at words buffer.old c r) }
 {
     for (column, byte) in line.iter().enumerate() {
-        put_bit(buffer, words, column, row, *byte == b'1');
+        put_bit(buffer, words, column, index, *byte == b'1');
     }
 }
 
 /// Writes the characters of one lane of each column into a line.
-pub(crate) fn unpack_row(buffer: &[u64], words: usize, row: usize, line: &mut [u8])
-    requires row { row < 64 * words }
+pub(crate) fn unpack_lane(buffer: &[u64], words: usize, index: usize, line: &mut [u8])
+    requires lane { index < 64 * words }
     requires whole { length line.old * words ≤ length buffer.now }
-    ensures { line.new ≡ map (λ c. digit_of (lane_at words buffer.now c row)) (range_with_len 0 (length line.old)) }
+    ensures { line.new ≡ map (λ c. digit_of (lane_at words buffer.now c index)) (range_with_len 0 (length line.old)) }
 {
     for (column, byte) in line.iter_mut().enumerate() {
-        let word = buffer[column * words + row / 64];
-        *byte = digit(bit(word, (row % 64) as u32));
+        let word = buffer[column * words + index / 64];
+        *byte = digit(bit(word, (index % 64) as u32));
     }
 }

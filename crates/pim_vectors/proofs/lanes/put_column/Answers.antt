@@ -1,7 +1,7 @@
 use Rattle.std.proofs.Common.{◌≡◌, ℕ, ◌+◌, ◌-◌, ◌*◌, List, ◌++◌, take, drop, refl, ap, ◌∙◌, arith}
-use Rattle.pim_vectors.specs.Tiles.{lane_at}
+use Rattle.pim_vectors.specs.inner.Cells.{lane_at}
 use Rattle.pim_vectors.proofs.TileLemmas.{lane_at-put}
-use Rattle.pim_vectors.proofs.rows.put_column.Goals as goal
+use Rattle.pim_vectors.proofs.lanes.put_column.Goals as goal
 
 pub returns : goal.returns
 returns c = λ k r small.
