@@ -1,11 +1,13 @@
--- A walk through the equations of a draft, depth first, which gives each equation its depth.
-use Rattle.std.specs.Prelude.{◌≡◌, ◌≢◌, ◌<◌, ◌≤◌, ◌+◌, ◌⊎◌, ℕ, suc, Bool, true, false, List, [], ◌∷◌, map, take, length, Option, Some, None, slice_get, slice_index, slice_index_or, count_by, unwrap_or, ◌^◌}
-use Rattle.pim_net.specs.Drivers.{sigs, is_nobody}
-use Rattle.pim_net.specs.Tables.{drivers_of}
-use Rattle.pim_net.specs.Depths.{deepest, depth_below}
+-- Inner: a search through the equations of a draft, depth first, which gives each equation its depth.
+use Rattle.std.specs.Prelude.{◌≡◌, ◌≢◌, ◌<◌, ◌≤◌, ◌+◌, ◌⊎◌, ℕ, suc, Bool, true, false, List, [], ◌∷◌, map, take, length, Option, Some, None, slice_get, slice_index, slice_index_or, count_by, unwrap_or}
+use Rattle.pim_net.specs.Drivers.{sigs}
+use Rattle.pim_net.specs.Depths.{deepest}
 use Rattle.pim_net.specs.Cycles.{IsCycle}
-use Rattle.pim_net.specs.Faults.{walk, cycle_by}
+use Rattle.pim_net.specs.Faults.{walk}
 use Rattle.pim_net.specs.WellFormed.{columns}
+use Rattle.pim_net.specs.inner.Drivers.{is_nobody, depth_by, next_by, cycle_by}
+use Rattle.pim_net.specs.inner.Tables.{drivers_of}
+use Rattle.pim_net.specs.declared.limits.TheConstants.{MAX_COLUMNS, MAX_EQUATIONS}
 use Rattle.pim_net.specs.declared.fault.NetFault.{NetFault}
 use Rattle.pim_net.specs.declared.fault.NetFault.TheVariants.{Twice, Undriven, Cycle, NoMemory}
 use Rattle.pim_net.specs.declared.parts.Equation.{Equation}
@@ -28,15 +30,15 @@ sig equations k = slice_index (sigs equations) k
 -- the table has each equation as the driver of its signal, and a driver for each column
 pub record IsWired (equations : List Equation) (table : List Driver) : Type 0 where
   pub named : (k : ℕ) → k < length equations → drivers_of table (sig equations k) ≡ Cover k
-  pub inside : (k j : ℕ) → k < length equations → j < length (ins equations k) → slice_index (ins equations k) j < length table
+  pub in_table : (k j : ℕ) → k < length equations → j < length (ins equations k) → slice_index (ins equations k) j < length table
   pub driven : (k j : ℕ) → k < length equations → j < length (ins equations k) → is_nobody (drivers_of table (slice_index (ins equations k) j)) ≡ false
   pub covers : (s k : ℕ) → drivers_of table s ≡ Cover k → (k < length equations) × (sig equations k ≡ s)
-  pub few : length equations < 2 ^ 28
-  pub narrow : (k : ℕ) → length (ins equations k) < 2 ^ 28
+  pub few : length equations < MAX_EQUATIONS
+  pub narrow : (k : ℕ) → length (ins equations k) < MAX_COLUMNS
 
 -- the depth of a signal by the table
 abbrev pub deep : List Equation → List Driver → ℕ → Option ℕ
-deep equations table s = depth_below (drivers_of table) equations (suc (length equations)) s
+deep equations table s = depth_by (drivers_of table) equations (suc (length equations)) s
 
 -- the mark of equation k
 abbrev pub mark : List Mark → ℕ → Mark
@@ -55,14 +57,14 @@ is_deep Open = false
 is_deep (Deep depth) = true
 
 -- equation k is on the trail
-abbrev pub Among : ℕ → List Frame → Type 0
-Among k [] = ⊥
-Among k (f ∷ trail) = (f.equation ≡ k) ⊎ Among k trail
+abbrev pub IsOnTrail : ℕ → List Frame → Type 0
+IsOnTrail k [] = ⊥
+IsOnTrail k (f ∷ trail) = (f.equation ≡ k) ⊎ IsOnTrail k trail
 
 -- equation k is not on the trail
-abbrev pub Apart : ℕ → List Frame → Type 0
-Apart k [] = Unit {0}
-Apart k (f ∷ trail) = (f.equation ≢ k) × Apart k trail
+abbrev pub IsOffTrail : ℕ → List Frame → Type 0
+IsOffTrail k [] = Unit {0}
+IsOffTrail k (f ∷ trail) = (f.equation ≢ k) × IsOffTrail k trail
 
 -- each equation on the trail is one of these
 abbrev pub EachKnown : List Equation → List Frame → Type 0
@@ -76,8 +78,8 @@ EachOpen marks (f ∷ trail) = (mark marks f.equation ≡ Open) × EachOpen mark
 
 -- no frame on the trail has come deeper than this
 abbrev pub EachBelow : ℕ → List Frame → Type 0
-EachBelow most [] = Unit {0}
-EachBelow most (f ∷ trail) = (f.depth ≤ most) × EachBelow most trail
+EachBelow depth [] = Unit {0}
+EachBelow depth (f ∷ trail) = (f.depth ≤ depth) × EachBelow depth trail
 
 -- a frame knows the greatest depth of the columns before its own
 pub record IsFrame (equations : List Equation) (table : List Driver) (f : Frame) : Type 0 where
@@ -93,14 +95,14 @@ IsTrail equations table root (f ∷ g ∷ trail) =
     IsFrame equations table f
     × (g.column < length (ins equations g.equation))
     × (slice_index (ins equations g.equation) g.column ≡ sig equations f.equation)
-    × Apart f.equation (g ∷ trail)
+    × IsOffTrail f.equation (g ∷ trail)
     × IsTrail equations table root (g ∷ trail)
 
 -- the marks: what is deep has its depth, what is open is the trail
 pub record IsMarked (equations : List Equation) (table : List Driver) (marks : List Mark) (trail : List Frame) : Type 0 where
   pub sized : length marks ≡ length equations
   pub depths : (k depth : ℕ) → mark marks k ≡ Deep depth → (deep equations table (sig equations k) ≡ Some depth) × (depth ≤ count_by is_deep marks)
-  pub opens : (k : ℕ) → mark marks k ≡ Open → Among k trail
+  pub opens : (k : ℕ) → mark marks k ≡ Open → IsOnTrail k trail
   pub opened : EachOpen marks trail
   pub below : EachBelow (count_by is_deep marks) trail
   pub counted : count_by is_new marks + count_by is_deep marks + length trail ≡ length equations
@@ -121,7 +123,7 @@ marked_depth marks (Cover k) = depth_mark (mark marks k)
 abbrev pub column_of : List Equation → Frame → ℕ
 column_of equations f = slice_index (ins equations f.equation) f.column
 
--- what a walk meets at a frame
+-- what the search meets at a frame
 abbrev pub IsStep : List Equation → List Driver → List Mark → Frame → Step → Type 0
 IsStep equations table marks f Done = f.column ≡ length (ins equations f.equation)
 IsStep equations table marks f (Past depth) =
@@ -136,20 +138,20 @@ IsStep equations table marks f (Round k) =
     × (drivers_of table (column_of equations f) ≡ Cover k)
     × (mark marks k ≡ Open)
 
--- a walk from equation root was done: the marks are whole again, and nothing that was come to is new again
+-- the search from equation root was done: the marks are whole again, and nothing that was come to is new again
 pub record IsVisited (equations : List Equation) (table : List Driver) (root : ℕ) (before now : List Mark) : Type 0 where
   pub marked : IsMarked equations table now []
   pub kept : (k : ℕ) → is_new (mark before k) ≡ false → is_new (mark now k) ≡ false
   pub came : is_new (mark now root) ≡ false
 
--- a walk from equation root came round: its signal has no depth, and the walk to the first columns without one gives this
--- list, which is a cycle; or memory was wanting
+-- the search from equation root came round: its signal has no depth, and the walk to the first columns without one gives
+-- this list, which is a cycle; or out of memory
 abbrev pub IsRound : List Equation → List Driver → ℕ → NetFault → Type 0
 IsRound equations table root (Twice s) = ⊥
 IsRound equations table root (Undriven s) = ⊥
 IsRound equations table root (Cycle cycle) =
     (deep equations table (sig equations root) ≡ None)
-    × (walk (drivers_of table) (deep equations table) equations (suc (length equations)) [] (Some (sig equations root)) ≡ cycle)
+    × (walk (next_by (drivers_of table) (deep equations table) equations) (suc (length equations)) [] (Some (sig equations root)) ≡ cycle)
     × IsCycle equations cycle
 IsRound equations table root NoMemory = Unit {0}
 
@@ -163,7 +165,7 @@ pub record IsLevelled (equations : List Equation) (table : List Driver) (marks :
   pub all : (k : ℕ) → k < length equations → is_deep (mark marks k) ≡ true
   pub depths : (k : ℕ) → k < length equations → deep equations table (sig equations k) ≡ depth_mark (mark marks k)
 
--- the list that a walk by the table comes to, which is a cycle; or want of memory
+-- the list that a walk by the table comes to, which is a cycle; or out of memory
 abbrev pub IsCycleFault : List Equation → List Driver → NetFault → Type 0
 IsCycleFault equations table (Twice s) = ⊥
 IsCycleFault equations table (Undriven s) = ⊥

@@ -1,4 +1,4 @@
--- What every draft keeps, with its notes of the inputs, so that a repeated one is found without a search over pairs.
+-- Inner: what every draft keeps, with its notes of the inputs, so that a repeated one is found without a search over pairs.
 use Rattle.std.specs.Prelude.{◌≡◌, ℕ, ◌<◌, ◌≤◌, Bool, false, List, [], length, map, Option, slice_index_or, All}
 use Rattle.pim_isa.specs.declared.port.Port.{Port}
 use Rattle.pim_isa.specs.declared.draft.TheConstants.{MAX_CELLS}
