@@ -59,6 +59,7 @@ How to read them:
 | `[]`, `x ∷ xs`, `++` | the empty list; x before the list xs; one list behind another |
 | `λ x. ..` | the function that gives .. for x |
 | `e.part`, `p.0`, `p.1` | a part of a record; the first and the second of a pair |
+| `Nor t ins`, `instr.Nor t ins` | a variant of a type with its fields; with a word in front where two types have one of that name |
 | `a - b`, `a / b` | for natural numbers: 0 if b is greater; rounded down |
 | `⊥`, `Unit {{0}}` | what never holds; what always holds |
 
