@@ -1,4 +1,4 @@
--- A graph that is lowered, and how many operands its gates may have.
+-- Inner. A graph that is lowered, and how many operands its gates may have.
 use Rattle.std.specs.Prelude.{◌≡◌, ℕ, ◌==◌, slice_index, List, [], ◌∷◌}
 use Rattle.pim_aig.specs.Graph.{AigView}
 use Rattle.pim_nor.specs.Leaves.{is_single}
@@ -17,7 +17,7 @@ abbrev pub TellsSingle : AigView → List ℕ → Type 0
 TellsSingle g counts = (n : ℕ) → (slice_index counts n == 1) ≡ is_single g n
 
 -- the literals of some leaves
-abbrev pub literals_of : Leaves → List Lit
-literals_of (Two x y) = x ∷ y ∷ []
-literals_of (Three x y z) = x ∷ y ∷ z ∷ []
-literals_of (Four x y z w) = x ∷ y ∷ z ∷ w ∷ []
+abbrev pub leaf_literals : Leaves → List Lit
+leaf_literals (Two x y) = x ∷ y ∷ []
+leaf_literals (Three x y z) = x ∷ y ∷ z ∷ []
+leaf_literals (Four x y z w) = x ∷ y ∷ z ∷ w ∷ []
