@@ -2,3 +2,4 @@
 pub mod FieldWalks
 pub mod PortLines
 pub mod Kept
+pub mod Places

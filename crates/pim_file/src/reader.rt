@@ -33,10 +33,11 @@ pub(crate) struct Reader {
 
 impl Model for Reader {
     ghost use Rattle.pim_file.specs.Reading.{Reading};
+    ghost use Rattle.pim_file.specs.inner.Places.{section_of};
 
     ghost Value = { Reading };
 
-    ghost view = { λ r. record { section = r.section; draft = r.draft } };
+    ghost view = { λ r. record { section = section_of r.section; draft = r.draft } };
 }
 
 impl Reader {
