@@ -2,6 +2,7 @@ mod Examples
 pub mod Orderings
 pub mod Peaking
 pub mod Placing
+pub mod Pooling
 pub mod ReadLemmas
 pub mod Reaching
 pub mod StableSorts

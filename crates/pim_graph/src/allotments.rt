@@ -127,6 +127,7 @@ fn give_back(
     requires read { 0 < slice_index left.old child }
     ensures left { left.new ≡ slice_set left.old child (slice_index left.old child - 1) }
     ensures len { length left.new ≡ length graph.now.kids }
+    ensures next { spares.new.next ≡ spares.old.next }
     ensures pool { OnOk result ((placed : List ℕ) (first : ℕ) → occurrences placed child ≡ 1 →
         IsPool (holds graph.now left.old taken) placed cells.now first spares.old →
         IsPool (holds graph.now left.new taken) placed cells.now first spares.new) }
@@ -154,6 +155,7 @@ fn release(
     ensures left { OnOk result ((x : ℕ) → x < length graph.now.kids →
         slice_index left.new x + occurrences children.now x ≡ slice_index left.old x) }
     ensures len { length left.new ≡ length graph.now.kids }
+    ensures next { spares.new.next ≡ spares.old.next }
     ensures pool { OnOk result ((placed : List ℕ) (first : ℕ) → All (λ c. occurrences placed c ≡ 1) children.now →
         IsPool (holds graph.now left.old taken) placed cells.now first spares.old →
         IsPool (holds graph.now left.new taken) placed cells.now first spares.new) }
