@@ -1,3 +1,4 @@
+pub mod Allotting
 mod Examples
 pub mod Orderings
 pub mod Peaking

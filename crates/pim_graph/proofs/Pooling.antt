@@ -1,5 +1,5 @@
 -- Cells that are given to gates, taken over and given back.
-use Rattle.std.proofs.Common.{◌≡◌, ◌≢◌, ◌⊎◌, ℕ, ◌+◌, ◌-◌, ◌<◌, ◌≤◌, Bool, true, false, cond, eqb, nat_lt, ◌&&◌, ◌||◌, not, List, [], ◌∷◌, ◌++◌, length, get_or, set, count_by, sum_by, IsPermutation, Option, Some, None, refl, sym, ◌∙◌, ap, subst, arith, inl, inr}
+use Rattle.std.proofs.Common.{◌≡◌, ◌≢◌, ◌⊎◌, ℕ, ◌+◌, ◌<◌, ◌≤◌, Bool, true, false, cond, eqb, nat_lt, ◌&&◌, ◌||◌, not, List, [], ◌∷◌, ◌++◌, length, get_or, set, count_by, sum_by, IsPermutation, Option, Some, None, refl, sym, ◌∙◌, ap, subst, arith, inl, inr}
 use Rattle.std.proofs.lemmas.Bool.{cases_eq, false≢true}
 use Rattle.std.proofs.lemmas.Bool.Decides.{nat_tests, eqb_tells}
 use Rattle.std.proofs.lemmas.List.{get_or-set_same, get_or-set_other}
@@ -60,16 +60,16 @@ has_once xs c h = has-occurrences xs c ∙ lt_true (occurrences xs c) (omega ari
 
 pushed : (xs : List ℕ) (x y : ℕ) → has (xs ++ x ∷ []) y ≡ true → (has xs y ≡ true) ⊎ (x ≡ y)
 pushed [] x y h = elim (eqb_tells x y) [
-      | inl t ↦ inr t.1
-      | inr f ↦ absurd (false≢true (sym (ap (λ (b : Bool). b || false) f.0) ∙ h))
-    ]
+  | inl t ↦ inr t.1
+  | inr f ↦ absurd (false≢true (sym (ap (λ (b : Bool). b || false) f.0) ∙ h))
+]
 pushed (z ∷ zs) x y h = elim (eqb_tells z y) [
-      | inl t ↦ inl (ap (λ (b : Bool). b || has zs y) t.0)
-      | inr f ↦ elim (pushed zs x y (sym (ap (λ (b : Bool). b || has (zs ++ x ∷ []) y) f.0) ∙ h)) [
-        | inl q ↦ inl (ap (λ (b : Bool). b || has zs y) f.0 ∙ q)
-        | inr e ↦ inr e
-      ]
-    ]
+  | inl t ↦ inl (ap (λ (b : Bool). b || has zs y) t.0)
+  | inr f ↦ elim (pushed zs x y (sym (ap (λ (b : Bool). b || has (zs ++ x ∷ []) y) f.0) ∙ h)) [
+    | inl q ↦ inl (ap (λ (b : Bool). b || has zs y) f.0 ∙ q)
+    | inr e ↦ inr e
+  ]
+]
 
 -- a gate of the list isn't one that is not in it
 pub apart_from : (placed : List ℕ) (x y : ℕ) → has placed x ≡ false → has placed y ≡ true → y ≢ x
@@ -77,9 +77,9 @@ apart_from placed x y fresh h = λ e. false≢true (sym fresh ∙ ap (has placed
 
 seen : (placed cells : List ℕ) (x cell y : ℕ) → has placed x ≡ false → x < length cells → has (placed ++ x ∷ []) y ≡ true → ((has placed y ≡ true) × (get_or (set cells x cell) y 0 ≡ get_or cells y 0)) ⊎ ((y ≡ x) × (get_or (set cells x cell) y 0 ≡ cell))
 seen placed cells x cell y fresh there h = elim (pushed placed x y h) [
-      | inl q ↦ inl (q, get_or-set_other cells x y cell 0 (apart_from placed x y fresh q))
-      | inr e ↦ inr (sym e, ap (λ (k : ℕ). get_or (set cells x cell) k 0) (sym e) ∙ get_or-set_same cells x cell 0 there)
-    ]
+  | inl q ↦ inl (q, get_or-set_other cells x y cell 0 (apart_from placed x y fresh q))
+  | inr e ↦ inr (sym e, ap (λ (k : ℕ). get_or (set cells x cell) k 0) (sym e) ∙ get_or-set_same cells x cell 0 there)
+]
 
 -- what it takes to give a gate a cell
 record Adds (P Q : ℕ → Bool) (placed cells : List ℕ) (first : ℕ) (old new : SparesView) (x cell : ℕ) : Type 0 where
@@ -129,23 +129,23 @@ added P Q placed cells first old new x cell adds pool =
       free_from = λ c h. pool.free_from c (omega (arith, adds.free_fewer c));
       free_within = λ c h. let b = pool.free_within c (omega (arith, adds.free_fewer c)) in omega (arith, adds.grows);
       counted =
-        let a = count_push Q placed x in
-        let b = ap (λ (v : Bool). cond {A = ℕ} v 1 0) adds.holder in
-        omega (arith, adds.counted);
+          let a = count_push Q placed x in
+          let b = ap (λ (v : Bool). cond {A = ℕ} v 1 0) adds.holder in
+          omega (arith, adds.counted);
     }
 
 -- the same gates are holders
 pub same_holders : (P Q : ℕ → Bool) (placed cells : List ℕ) (first : ℕ) (s : SparesView) → ((y : ℕ) → P y ≡ Q y) → IsPool P placed cells first s → IsPool Q placed cells first s
 same_holders P Q placed cells first s same pool = record {
-      from = pool.from;
-      within = pool.within;
-      apart = λ y z hy hz py pz e. pool.apart y z hy hz (same y ∙ py) (same z ∙ pz) e;
-      unheld = λ y h p. pool.unheld y h (same y ∙ p);
-      once = pool.once;
-      free_from = pool.free_from;
-      free_within = pool.free_within;
-      counted = let a = count_same P Q same placed in omega (arith, pool.counted);
-    }
+  from = pool.from;
+  within = pool.within;
+  apart = λ y z hy hz py pz e. pool.apart y z hy hz (same y ∙ py) (same z ∙ pz) e;
+  unheld = λ y h p. pool.unheld y h (same y ∙ p);
+  once = pool.once;
+  free_from = pool.free_from;
+  free_within = pool.free_within;
+  counted = let a = count_same P Q same placed in omega (arith, pool.counted);
+}
 
 fresh_cell : (P : ℕ → Bool) (placed cells : List ℕ) (first : ℕ) (old new : SparesView) (x cell : ℕ) → IsPool P placed cells first old → has placed x ≡ false → x < length cells → P x ≡ true → cell ≡ old.next → length old.free ≡ 0 → new.free ≡ [] → new.next ≡ old.next + 1 → IsPool P (placed ++ x ∷ []) (set cells x cell) first new
 fresh_cell P placed cells first old new x cell pool fresh there holder is none free next =
@@ -224,10 +224,10 @@ freed P Q placed cells first old new c pool single held gone same perm next =
       within = λ y h. let b = pool.within y h in omega arith;
       apart = λ y z hy hz py pz e. pool.apart y z hy hz (same y (other y py) ∙ py) (same z (other z pz) ∙ pz) e;
       unheld = λ y h q.
-        let b = pool.unheld y h (same y (other y q) ∙ q) in
-        let ne : cell ≢ get_or cells y 0 = λ e. other y q (pool.apart y c h c_in (same y (other y q) ∙ q) held (sym e)) in
-        let z = ap (λ (v : Bool). cond {A = ℕ} v 1 0) (eqb_other cell (get_or cells y 0) ne) in
-        omega (arith, occ (get_or cells y 0));
+          let b = pool.unheld y h (same y (other y q) ∙ q) in
+          let ne : cell ≢ get_or cells y 0 = λ e. other y q (pool.apart y c h c_in (same y (other y q) ∙ q) held (sym e)) in
+          let z = ap (λ (v : Bool). cond {A = ℕ} v 1 0) (eqb_other cell (get_or cells y 0) ne) in
+          omega (arith, occ (get_or cells y 0));
       once = λ d. elim (eqb_tells cell d) [
         | inl t ↦
             let z = ap (λ (v : Bool). cond {A = ℕ} v 1 0) t.0 in
@@ -263,7 +263,7 @@ pub chosen : (g : GraphView) (left placed cells : List ℕ) (first : ℕ) (old n
 chosen g left placed cells first old new x cell None pool fresh there holder able choice =
     let some : (length old.free ≡ 0) ⊎ (0 < length old.free) = grind arith in
     same_holders (still_needed g left) (holds g left None) (placed ++ x ∷ []) (set cells x cell) first new (λ y. sym (and_not_false (still_needed g left y)))
-      (take_cell (still_needed g left) placed cells first old new x cell pool fresh there holder choice some)
+    (take_cell (still_needed g left) placed cells first old new x cell pool fresh there holder choice some)
 chosen g left placed cells first old new x cell (Some c) pool fresh there holder able choice =
     let single = able.single c refl in
     let alive = able.alive c refl in
@@ -306,10 +306,10 @@ pub stays_pool : (g : GraphView) (left : List ℕ) (c v : ℕ) (taken : Option �
 stays_pool g left c v taken placed cells first s there some why pool =
     let M : ℕ → Type 0 = λ y. holds g left taken y ≡ holds g (set left c v) taken y in
     same_holders (holds g left taken) (holds g (set left c v) taken) placed cells first s
-      (λ y. elim (cases_eq y c) [
-        | inl same ↦ subst M (sym same) (stays_at g left c v taken there some why)
-        | inr ne ↦ holds_other g left c v y taken ne
-      ]) pool
+    (λ y. elim (cases_eq y c) [
+      | inl same ↦ subst M (sym same) (stays_at g left c v taken there some why)
+      | inr ne ↦ holds_other g left c v y taken ne
+    ]) pool
 
 pub freed_pool : (g : GraphView) (left : List ℕ) (c v : ℕ) (taken : Option ℕ) (placed cells : List ℕ) (first : ℕ) (old new : SparesView) → c < length left → 0 < get_or left c 0 → v ≡ 0 → has g.roots c ≡ false → is_taken taken c ≡ false → occurrences placed c ≡ 1 → IsPermutation (get_or cells c 0 ∷ old.free) new.free → new.next ≡ old.next → IsPool (holds g left taken) placed cells first old → IsPool (holds g (set left c v) taken) placed cells first new
 freed_pool g left c v taken placed cells first old new there some z no_root not_taken single perm next pool =

@@ -25,15 +25,15 @@ returns-then-not-is_spent-clause-pool c =
       | then-not-is_spent-via-else-not-is_spent+else-is_root+then-is_taken w ↦ is_over (grind (arith, common_steps))
     ] in
     λ placed first single pool.
-      let M : List ℕ → Type 0 = λ xs. IsPool (holds g xs c.args.taken) placed c.args.cells.now first c.args.spares.now in
-      subst M (sym c.take_back.ensures) (stays_pool g left child v c.args.taken placed c.args.cells.now first c.args.spares.now fits c.requires.read why pool)
+    let M : List ℕ → Type 0 = λ xs. IsPool (holds g xs c.args.taken) placed c.args.cells.now first c.args.spares.now in
+    subst M (sym c.take_back.ensures) (stays_pool g left child v c.args.taken placed c.args.cells.now first c.args.spares.now fits c.requires.read why pool)
 
 pooled : (r : Result (Unit {0}) NoMemory) (g : GraphView) (left : List ℕ) (child : ℕ) (taken : Option ℕ) (cells : List ℕ) (old new : SparesView) (now : List ℕ) → child < length left → 0 < get_or left child 0 → get_or left child 0 - 1 ≡ 0 → has g.roots child ≡ false → is_taken taken child ≡ false → now ≡ set left child (get_or left child 0 - 1) → OnOk r (IsPermutation (get_or cells child 0 ∷ old.free) new.free) → new.next ≡ old.next → OnOk r ((placed : List ℕ) → (first : ℕ) → occurrences placed child ≡ 1 → IsPool (holds g left taken) placed cells first old → IsPool (holds g now taken) placed cells first new)
 pooled (Err e) g left child taken cells old new now fits some z no_root not_taken is perm next = tt
 pooled (Ok u) g left child taken cells old new now fits some z no_root not_taken is perm next =
     λ placed first single pool.
-      let M : List ℕ → Type 0 = λ xs. IsPool (holds g xs taken) placed cells first new in
-      subst M (sym is) (freed_pool g left child (get_or left child 0 - 1) taken placed cells first old new fits some z no_root not_taken single perm next pool)
+    let M : List ℕ → Type 0 = λ xs. IsPool (holds g xs taken) placed cells first new in
+    subst M (sym is) (freed_pool g left child (get_or left child 0 - 1) taken placed cells first old new fits some z no_root not_taken single perm next pool)
 
 pub returns-clause-pool : goal.returns-clause-pool
 returns-clause-pool c =

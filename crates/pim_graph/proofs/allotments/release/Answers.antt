@@ -1,4 +1,4 @@
-use Rattle.std.proofs.Common.{◌≡◌, ℕ, ◌+◌, ◌-◌, ◌<◌, List, length, get_or, set, drop, subst, sym, ◌∙◌, arith}
+use Rattle.std.proofs.Common.{◌≡◌, ℕ, ◌+◌, ◌<◌, List, length, get_or, drop, subst, sym, ◌∙◌}
 use Rattle.pim_graph.specs.Readers.{occurrences}
 use Rattle.pim_graph.proofs.ReadLemmas.{read_rest, read_taken}
 use Rattle.pim_graph.proofs.allotments.release.Goals as goal

@@ -1,4 +1,4 @@
-use Rattle.std.proofs.Common.{◌∷◌, List, map, IsPermutation, subst, sym, heap_items}
+use Rattle.std.proofs.Common.{◌∷◌, map, IsPermutation, subst, heap_items}
 use Rattle.std.proofs.lemmas.List.Sorted.{IsPermutation-map}
 use Rattle.pim_graph.specs.inner.Pools.{SparesView}
 use Rattle.pim_graph.proofs.spares.Spares.give_back.Goals as goal

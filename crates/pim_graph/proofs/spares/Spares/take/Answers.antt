@@ -1,4 +1,4 @@
-use Rattle.std.proofs.Common.{◌≡◌, ◌<◌, ◌∷◌, length, map, IsPermutation, heap_items, subst, sym, ap, arith}
+use Rattle.std.proofs.Common.{◌<◌, ◌∷◌, length, map, IsPermutation, heap_items, subst, ap, arith}
 use Rattle.std.proofs.lemmas.List.Sorted.{IsPermutation-map, length_permutation}
 use Rattle.pim_graph.specs.inner.Pools.{SparesView}
 use Rattle.pim_graph.proofs.spares.Spares.take.Goals as goal
