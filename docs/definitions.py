@@ -149,6 +149,8 @@ def read_spec(crate, path):
         if line.startswith("--"):
             comment.append(line)
             current = None
+        elif not line and (spec.definitions or spec.about):
+            comment = []
         elif start:
             current = Definition(start[1].replace("◌", ""), comment, [line])
             spec.definitions[current.name] = current
@@ -231,7 +233,7 @@ def declaration(module, name):
 
 def without_marks(lines):
     """A comment as a sentence."""
-    return " ".join(line.removeprefix("--").strip() for line in lines)
+    return " ".join(line.removeprefix("--").strip() for line in lines if not line.startswith("-- --"))
 
 
 def aliases(specs, spec, definitions):
@@ -253,7 +255,8 @@ def printed(specs, spec, names):
     definitions = [definition for definition in spec.definitions.values() if definition.name in names]
     lines = [f"**{spec.path}**: {without_marks(spec.about)}", *aliases(specs, spec, definitions), "", "```"]
     for definition in definitions:
-        lines += [*definition.comment, *map(plain, definition.lines), ""]
+        comment = [line for line in definition.comment if not line.startswith("-- --")]
+        lines += [*comment, *map(plain, definition.lines), ""]
     return [*lines[:-1], "```", ""]
 
 
