@@ -10,16 +10,14 @@ use Rattle.pim_io.specs.Names.{label}
 use Rattle.pim_net.specs.Netlist.{DraftView}
 use Rattle.pim_net.specs.declared.cover.Bit3.{Bit3}
 use Rattle.pim_net.specs.declared.parts.Equation.{Equation}
-use Rattle.pim_blif.specs.declared.directive.Directive.{Directive}
-use Rattle.pim_blif.specs.declared.directive.Directive.TheVariants.{Model, Inputs, Outputs, Names, End, PassedOver, Unsupported}
 use Rattle.pim_blif.specs.declared.fault.BlifFault.{BlifFault}
 use Rattle.pim_blif.specs.declared.fault.BlifFault.TheVariants as faults
 use Rattle.pim_blif.specs.Signals.{number_of, with_name, with_names}
 use Rattle.pim_blif.specs.Rows.{RowView, cells_of, pattern_of, output_of, value_of, is_mixed, is_cell, row_words, row_at}
-use Rattle.pim_blif.specs.Covers.{CoverText, cover_text, with_row_text, is_one, phase_of, cover_of, equation_of, open_behind, ended_behind}
+use Rattle.pim_blif.specs.Covers.{CoverText, cover_text, with_row_text, is_one, phase_of, cover_of, equation_of, open_behind}
 use Rattle.pim_blif.specs.Netlists.{draft_with, output_ref, as_inputs, as_outputs, as_signals}
-use Rattle.pim_blif.specs.Judging.{Known, with_input, with_output, each, numbered, empty_cover, with_cover, first_value, with_row, with_row_at, row_of, without_cover, allowed, known_behind}
-use Rattle.pim_blif.specs.Directives.{arguments, first_word, is_end}
+use Rattle.pim_blif.specs.inner.Judging.{Known, with_input, with_output, each, numbered, empty_cover, with_cover, first_value, with_row, with_row_at, row_of, without_cover, allowed, known_behind, ended_behind}
+use Rattle.pim_blif.specs.Directives.{Directive, Model, Inputs, Outputs, Names, End, PassedOver, Unsupported, arguments, first_word, is_end}
 use Rattle.pim_blif.specs.Statements.{Statement}
 use Rattle.pim_blif.specs.StatementFaults.{unsupported}
 use Rattle.pim_blif.specs.Steps.{◌>>=◌}

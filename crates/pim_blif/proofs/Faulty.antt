@@ -9,17 +9,15 @@ use Rattle.std.proofs.lemmas.List.{map-append, length-map, length_push}
 use Rattle.std.proofs.lemmas.Slice.Eq.{bytes_eq-Decides}
 use Rattle.pim_io.specs.Names.{label}
 use Rattle.pim_net.specs.declared.kind.Kind.TheVariants as kinds
-use Rattle.pim_blif.specs.declared.directive.Directive.{Directive}
-use Rattle.pim_blif.specs.declared.directive.Directive.TheVariants.{Model, Inputs, Outputs, Names, End, PassedOver, Unsupported}
 use Rattle.pim_blif.specs.declared.fault.BlifFault.{BlifFault}
 use Rattle.pim_blif.specs.declared.fault.BlifFault.TheVariants as faults
 use Rattle.pim_blif.specs.Signals.{number_of, is_known, with_name}
 use Rattle.pim_blif.specs.Statements.{Statement}
-use Rattle.pim_blif.specs.Directives.{directive, arguments, first_word, is_end}
+use Rattle.pim_blif.specs.Directives.{Directive, Model, Inputs, Outputs, Names, End, PassedOver, Unsupported, directive, arguments, first_word, is_end}
 use Rattle.pim_blif.specs.Rows.{cells_of, pattern_of, row_at}
 use Rattle.pim_blif.specs.Covers.{CoverText, open_cover, is_one, cover_of, equation_of}
 use Rattle.pim_blif.specs.Netlists.{names_of, inputs_of, outputs_of, output_ref}
-use Rattle.pim_blif.specs.Judging.{Known, named, with_input, with_output, each, numbered, empty_cover, with_cover, first_value, with_row, with_row_at, row_of, without_cover, allowed, known_behind, judged, known_from}
+use Rattle.pim_blif.specs.inner.Judging.{Known, named, with_input, with_output, each, numbered, empty_cover, with_cover, first_value, with_row, with_row_at, row_of, without_cover, allowed, known_behind, judged, known_from}
 use Rattle.pim_blif.specs.StatementFaults.{fault_if, name_fault, is_among, inputs_fault, outputs_fault, names_fault, cover_fault, first_of, row_fault, placed_fault, fault_of, unsupported}
 use Rattle.pim_blif.specs.Steps.{◌>>=◌}
 use Rattle.pim_blif.proofs.Knowing.{with_inputs, with_outputs, input_is, output_is}

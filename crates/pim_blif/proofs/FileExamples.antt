@@ -6,9 +6,8 @@ use Rattle.pim_net.specs.declared.fault.NetFault.TheVariants as net_faults
 use Rattle.pim_net.specs.declared.kind.Kind.TheVariants as kinds
 use Rattle.pim_net.specs.declared.parts.Equation.{Equation}
 use Rattle.pim_net.specs.declared.parts.OutRef.{OutRef}
-use Rattle.pim_blif.specs.declared.directive.Directive.TheVariants.{PassedOver, Unsupported}
 use Rattle.pim_blif.specs.declared.fault.BlifFault.TheVariants as faults
-use Rattle.pim_blif.specs.Directives.{directive_of, directive_named}
+use Rattle.pim_blif.specs.Directives.{PassedOver, Unsupported, directive_of, directive_named}
 use Rattle.pim_blif.specs.Signals.{distinct}
 use Rattle.pim_blif.specs.Rows.{row_at}
 use Rattle.pim_blif.specs.StatementFaults.{name_fault, outputs_fault}

@@ -7,7 +7,7 @@ use Rattle.std.specs.Str.{bytes_eq}
 use Rattle.pim_blif.specs.declared.fault.BlifFault.TheVariants as faults
 use Rattle.pim_net.specs.declared.kind.Kind.TheVariants as kinds
 use Rattle.pim_blif.specs.Signals.{number_of, is_known, with_name, with_names}
-use Rattle.pim_blif.specs.Judging.{named}
+use Rattle.pim_blif.specs.inner.Judging.{named}
 use Rattle.pim_blif.proofs.Found.{number_within}
 
 -- a name is among the names

@@ -4,7 +4,7 @@ use Rattle.std.specs.List.{list_any, count_by}
 use Rattle.std.proofs.lemmas.Bool.{eq-eqb, ne_eqb, cases_eq}
 use Rattle.std.proofs.lemmas.List.{length-set, get_or-set_same, get_or-set_other, length-append}
 use Rattle.std.proofs.lemmas.List.Sums.{count_by-le-length, sum_by-set}
-use Rattle.pim_blif.specs.InputMarks.{is_marked, AreMarked}
+use Rattle.pim_blif.specs.inner.InputMarks.{is_marked, AreMarked}
 
 -- one more mark counts as one
 counted : (marks : List Bool) (sig : ℕ) → sig < length marks → is_marked marks sig ≡ false → count_by (λ mark. mark) (set marks sig true) ≡ count_by (λ mark. mark) marks + 1

@@ -8,7 +8,8 @@ use Rattle.std.proofs.lemmas.List.{map-append, length-map, get_or-map}
 use Rattle.std.proofs.lemmas.List.Elements.{All-same, All-push}
 use Rattle.indexmap.specs.IndexSet.{insert_key}
 use Rattle.pim_net.specs.Labels.{IsName}
-use Rattle.pim_blif.specs.Reading.{texts}
+use Rattle.pim_net.specs.declared.limits.TheConstants.{MAX_SIGNALS}
+use Rattle.pim_blif.specs.inner.Reading.{texts}
 use Rattle.pim_blif.specs.Signals.{number_of, is_known, with_name}
 
 eqb_same : (a b : ℕ) → eqb a b ≡ eqb b a
@@ -50,17 +51,11 @@ inserted keys name =
       | false ↦ map-append (λ (slice : Bor (List ℕ)). slice.now) keys (name ∷ [])
     ])
 
--- the number of a name that is known, as the first place that holds it
-pub known_place : (keys : List (Bor (List ℕ))) (name : List ℕ) → position (λ (key : Bor (List ℕ)). bytes_eq name key.now) keys ≡ cond (is_known (texts keys) name) (Some (number_of (texts keys) name)) None
-known_place keys name =
-    let count : length (texts keys) ≡ length keys = length-map keys (λ (slice : Bor (List ℕ)). slice.now) in
-    rw (number_of_place keys name, count) refl
-
 -- names that are labels, and not too many, stay so once one is added
-pub kept : (names after : List (List ℕ)) (name : List ℕ) → after ≡ with_name names name → All IsName names → length names ≤ 1048576 → IsName name → number_of names name < 1048576 → All IsName after × (length after ≤ 1048576)
+pub kept : (names after : List (List ℕ)) (name : List ℕ) → after ≡ with_name names name → All IsName names → length names ≤ MAX_SIGNALS → IsName name → number_of names name < MAX_SIGNALS → All IsName after × (length after ≤ MAX_SIGNALS)
 kept names after name e labels few label room = by (is_known names name) refl e
   where
-    by : (b : Bool) → is_known names name ≡ b → after ≡ cond b names (names ++ name ∷ []) → All IsName after × (length after ≤ 1048576)
+    by : (b : Bool) → is_known names name ≡ b → after ≡ cond b names (names ++ name ∷ []) → All IsName after × (length after ≤ MAX_SIGNALS)
     by true known same = (All-same IsName after names same labels, omega (arith, ap length same))
     by false new same =
         let count : length names ≤ number_of names name = grind (arith, nat_tests) in

@@ -5,11 +5,9 @@ use Rattle.pim_io.specs.Names.{label}
 use Rattle.pim_net.specs.Netlist.{DraftView}
 use Rattle.pim_net.specs.declared.parts.OutRef.{OutRef}
 use Rattle.pim_blif.specs.Statements.{Statement}
-use Rattle.pim_blif.specs.Directives.{directive, arguments}
+use Rattle.pim_blif.specs.Directives.{Directive, Inputs, Outputs, Names, directive, arguments}
 use Rattle.pim_blif.specs.Signals.{number_of, distinct}
 use Rattle.pim_blif.specs.Covers.{CoverText, covers_of, equation_of}
-use Rattle.pim_blif.specs.declared.directive.Directive.{Directive}
-use Rattle.pim_blif.specs.declared.directive.Directive.TheVariants.{Inputs, Outputs, Names}
 
 -- the words of `.inputs`
 abbrev pub as_inputs : Option Directive → List (List ℕ) → List (List ℕ)
