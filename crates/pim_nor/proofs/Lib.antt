@@ -11,6 +11,9 @@ pub mod Sound
 pub mod Numbering
 pub mod PrunedValues
 pub mod NetworkValues
+pub mod Constants
+pub mod GraphReached
+pub mod Networks
 pub mod Reachable
 pub mod AllRead
 pub mod Fewer

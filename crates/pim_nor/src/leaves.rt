@@ -1,7 +1,7 @@
 ghost use Rattle.std.specs.Prelude.{◌≡◌, ◌≤◌};
 ghost use Rattle.pim_nor.specs.Leaves.{distinct};
 ghost use Rattle.pim_nor.specs.Named.{nor_of_leaves};
-ghost use Rattle.pim_nor.specs.Plans.{literals_of};
+ghost use Rattle.pim_nor.specs.inner.Plans.{leaf_literals};
 
 use crate::Gate;
 use crate::slots::source;
@@ -19,7 +19,7 @@ impl Leaves {
     /// The NOR of their complements, where one that repeats an earlier one is read once.
     pub(crate) fn nor(self, inputs: u32) -> Gate
         requires { inputs ≤ 1048576 }
-        ensures { result ≡ nor_of_leaves inputs (distinct (literals_of self)) }
+        ensures { result ≡ nor_of_leaves inputs (distinct (leaf_literals self)) }
     {
         match self {
             Leaves::Two(x, y) => nor_of_leaves(inputs, &[x, y]),

@@ -1,7 +1,10 @@
-ghost use Rattle.std.specs.Prelude.{◌≡◌, ◌<◌, ◌^◌, length, IfOk};
+ghost use Rattle.std.specs.Prelude.{◌≡◌, ◌<◌, ◌≤◌, ◌^◌, ℕ, length, IfOk};
+ghost use Rattle.pim_graph.specs.Graphs.{kids_of};
+ghost use Rattle.pim_graph.specs.Orders.{IsReached, order};
+ghost use Rattle.pim_graph.specs.Readers.{occurrences};
 ghost use Rattle.pim_nor.specs.GateGraphs.{graph_of};
 ghost use Rattle.pim_nor.specs.Network.{IsNetwork, nor_count};
-ghost use Rattle.pim_nor.specs.Named.{reading};
+ghost use Rattle.pim_nor.specs.inner.Reading.{reading};
 
 use crate::gate_graph::graph_of;
 use pim_graph::Graph;
@@ -115,8 +118,14 @@ impl NorNet {
     /// The graph of the gates: gate k reads the gates among its operands, in their order and each once, and the roots are
     /// the gates of the outputs, in the order of the outputs and each once. Constant time.
     pub fn graph(&self) -> &Graph
-        ensures { result.now ≡ graph_of self.now }
+        ensures graph { result.now ≡ graph_of self.now }
+        ensures once { (gate child : ℕ) → occurrences (kids_of (graph_of self.now) gate) child ≤ 1 }
+
+        // Its roots reach each gate, so its order holds all gates.
+        ensures reached { (gate : ℕ) → gate < length self.now.gates → IsReached (graph_of self.now) gate }
+        ensures full { length (order (graph_of self.now)) ≡ length self.now.gates }
     {
+        self.graph.has_order();
         &self.graph
     }
 
