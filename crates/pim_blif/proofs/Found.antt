@@ -3,7 +3,7 @@ use Rattle.std.proofs.Common.{◌≡◌, ℕ, suc, ◌<◌, ◌≤◌, Bool, tru
 use Rattle.std.proofs.lemmas.Bool.{ltb-true, lt-ltb}
 use Rattle.std.proofs.lemmas.Bool.Decides.{nat_tests}
 use Rattle.std.specs.Str.{bytes_eq}
-use Rattle.pim_io.specs.declared.name.TheConstants.{MAX_NAME}
+use Rattle.pim_io.specs.declared.limits.TheConstants.{MAX_NAME}
 use Rattle.pim_net.specs.declared.kind.Kind.TheVariants as kinds
 use Rattle.pim_net.specs.declared.limits.TheConstants.{MAX_SIGNALS}
 use Rattle.pim_blif.specs.declared.fault.BlifFault.TheVariants as faults

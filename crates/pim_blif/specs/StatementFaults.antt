@@ -6,7 +6,7 @@ use Rattle.std.specs.Option.{option_or}
 use Rattle.std.specs.Result.{result_err}
 use Rattle.std.specs.Str.{bytes_eq}
 use Rattle.pim_io.specs.Names.{label}
-use Rattle.pim_io.specs.declared.name.TheConstants.{MAX_NAME}
+use Rattle.pim_io.specs.declared.limits.TheConstants.{MAX_NAME}
 use Rattle.pim_net.specs.declared.limits.TheConstants.{MAX_OUTPUTS, MAX_SIGNALS}
 use Rattle.pim_net.specs.declared.kind.Kind.TheVariants as kinds
 use Rattle.pim_blif.specs.declared.fault.BlifFault.{BlifFault}

@@ -6,7 +6,7 @@ use Rattle.std.specs.Option.{option_to_list}
 use Rattle.pim_io.specs.Names.{label}
 use Rattle.pim_net.specs.Covers.{CoverView}
 use Rattle.pim_net.specs.Netlist.{DraftView}
-use Rattle.pim_io.specs.declared.name.TheConstants.{MAX_NAME}
+use Rattle.pim_io.specs.declared.limits.TheConstants.{MAX_NAME}
 use Rattle.pim_net.specs.declared.limits.TheConstants.{MAX_OUTPUTS, MAX_SIGNALS}
 use Rattle.pim_net.specs.declared.kind.Kind.TheVariants as kinds
 use Rattle.pim_net.specs.declared.parts.Equation.{Equation}
