@@ -20,7 +20,7 @@ use Rattle.pim_blif.specs.inner.Judging.{Known, with_input, with_output, each, n
 use Rattle.pim_blif.specs.Directives.{Directive, Model, Inputs, Outputs, Names, End, PassedOver, Unsupported, arguments, first_word, is_end}
 use Rattle.pim_blif.specs.Statements.{Statement}
 use Rattle.pim_blif.specs.StatementFaults.{unsupported}
-use Rattle.pim_blif.specs.Steps.{◌>>=◌}
+use Rattle.pim_io.specs.Readings.{◌>>=◌}
 use Rattle.pim_blif.proofs.Growing.{all_named, named_append, grows_names}
 use Rattle.pim_blif.proofs.Knowing.{drafted, made, IsWhole, whole_ended, whole_grown, whole_same, same_draft, made_ended, made_same, inputs_taken, outputs_taken, numbered_is, named_take, named_at, empty_is}
 

@@ -19,7 +19,7 @@ use Rattle.pim_blif.specs.Covers.{CoverText, open_cover, is_one, cover_of, equat
 use Rattle.pim_blif.specs.Netlists.{names_of, inputs_of, outputs_of, output_ref}
 use Rattle.pim_blif.specs.inner.Judging.{Known, named, with_input, with_output, each, numbered, empty_cover, with_cover, first_value, with_row, with_row_at, row_of, without_cover, allowed, known_behind, judged, known_from}
 use Rattle.pim_blif.specs.StatementFaults.{fault_if, name_fault, is_among, inputs_fault, outputs_fault, names_fault, cover_fault, first_of, row_fault, placed_fault, fault_of, unsupported}
-use Rattle.pim_blif.specs.Steps.{◌>>=◌}
+use Rattle.pim_io.specs.Readings.{◌>>=◌}
 use Rattle.pim_blif.proofs.Knowing.{with_inputs, with_outputs, input_is, output_is}
 use Rattle.pim_blif.proofs.Growing.{IsNamed, AreNamed, named_append, still_all, same_numbers, grows_name, number_same, is_named, named_is}
 

@@ -1,5 +1,5 @@
 -- How a line is joined to a statement, and how many words it has.
-use Rattle.std.proofs.Common.{◌≡◌, ℕ, ◌+◌, ◌-◌, ◌*◌, ◌<◌, ◌≤◌, Bool, true, false, List, [], ◌∷◌, ◌++◌, length, Option, Some, None, refl, ap, arith, cond, take, length-append}
+use Rattle.std.proofs.Common.{◌≡◌, ℕ, ◌+◌, ◌-◌, ◌*◌, ◌≤◌, Bool, true, false, List, [], ◌∷◌, ◌++◌, length, Option, Some, None, refl, ap, arith, cond, take, length-append}
 use Rattle.std.specs.Option.{MatchOption, unwrap_or, option_map}
 use Rattle.std.proofs.lemmas.List.{length-take}
 use Rattle.std.specs.List.{before_first, position_or_len, suffix_len}

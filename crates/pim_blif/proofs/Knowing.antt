@@ -15,7 +15,7 @@ use Rattle.pim_blif.specs.Rows.{cells_of, pattern_of}
 use Rattle.pim_blif.specs.Covers.{CoverText, cover_text, phase_of, equation_of}
 use Rattle.pim_blif.specs.Netlists.{draft_with, output_ref}
 use Rattle.pim_blif.specs.inner.Judging.{Known, named, with_input, with_output, each, numbered, empty_cover, without_cover}
-use Rattle.pim_blif.specs.Steps.{◌>>=◌}
+use Rattle.pim_io.specs.Readings.{◌>>=◌}
 use Rattle.pim_blif.proofs.Growing.{IsNamed, AreNamed, Grows, still_named, still_all, named_append, same_numbers, number_stays, named_is}
 
 -- all that is known, where these names, inputs, outputs and covers came

@@ -2,7 +2,7 @@
 use Rattle.std.proofs.Common.{◌≡◌, ℕ, List, ◌++◌, Result, Ok, length, take, min, ap, ◌∙◌, arith}
 use Rattle.std.proofs.lemmas.List.{take_min}
 use Rattle.pim_blif.specs.declared.fault.BlifFault.{BlifFault}
-use Rattle.pim_blif.specs.Steps.{◌>>=◌}
+use Rattle.pim_io.specs.Readings.{◌>>=◌}
 
 -- what was numbered before, and what is still numbered
 abbrev pub with_numbers : List ℕ → Result (List ℕ × List (List ℕ)) BlifFault → Result (List ℕ × List (List ℕ)) BlifFault

@@ -6,5 +6,4 @@ pub mod Rows
 pub mod Signals
 pub mod StatementFaults
 pub mod Statements
-pub mod Steps
 pub mod inner

@@ -1,7 +1,7 @@
 ghost use Rattle.std.specs.Prelude.{◌≡◌, ◌+◌, ◌<◌, ◌≤◌, nat_lt, is_some, All, length, IfOk, IfSome};
+ghost use Rattle.pim_io.specs.Readings.{Gives};
 ghost use Rattle.pim_net.specs.declared.limits.TheConstants.{MAX_COLUMNS, MAX_ROWS, MAX_SIGNALS};
 ghost use Rattle.pim_blif.specs.inner.Judging.{empty_cover, first_value, with_row_at};
-ghost use Rattle.pim_blif.specs.Steps.{Gives};
 
 use crate::fault::BlifFault;
 use crate::row::read_row;
@@ -43,7 +43,7 @@ pub(crate) fn add_row(
     cells: &mut Vec<Bit3>,
 ) -> Result<Equation, BlifFault>
     requires { length equation.cover.rows < MAX_ROWS }
-    ensures exact { Gives (λ e. e) result (with_row_at line equation words.now) }
+    ensures exact { Gives BlifFault.NoMemory (λ e. e) result (with_row_at line equation words.now) }
     ensures same { IfOk result (λ e. e.sig ≡ equation.sig) }
     ensures rows { IfOk result (λ e. length e.cover.rows ≡ length equation.cover.rows + 1) }
 {

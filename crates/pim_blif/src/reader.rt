@@ -1,8 +1,8 @@
 ghost use Rattle.std.specs.Prelude.{◌≡◌, ◌+◌, ◌<◌, ◌≤◌, [], None, length, OnOk, IfSome};
+ghost use Rattle.pim_io.specs.Readings.{Gives};
 ghost use Rattle.pim_net.specs.declared.limits.TheConstants.{MAX_COLUMNS, MAX_EQUATIONS, MAX_ROWS};
 ghost use Rattle.pim_blif.specs.inner.Judging.{known_from, with_input, with_output, each, with_cover, row_of, without_cover};
 ghost use Rattle.pim_blif.specs.inner.Readers.{words_used};
-ghost use Rattle.pim_blif.specs.Steps.{Gives};
 
 use crate::cover::{add_row, empty_cover};
 use crate::fault::BlifFault;
@@ -71,7 +71,7 @@ impl<'a> Reader<'a> {
     /// Takes up an input of a name, which is not one already.
     #[tactic(auto, using(crate::proofs::Marks::few_inputs, crate::proofs::Marks::marks_same, crate::proofs::Marks::marks_more), unfolding(crate::specs::inner::Judging::with_input))]
     fn add_input(&mut self, line: u32, name: &Word<'a>) -> Result<(), BlifFault>
-        ensures exact { Gives (λ _. self.new) result (with_input line self.old name.now) }
+        ensures exact { Gives BlifFault.NoMemory (λ _. self.new) result (with_input line self.old name.now) }
         ensures used { OnOk result (words_used self.new ≡ words_used self.old) }
     {
         let name = name.bytes();
@@ -88,7 +88,7 @@ impl<'a> Reader<'a> {
     /// Takes up an output of a name; there are at most `MAX_OUTPUTS`.
     #[tactic(auto, unfolding(crate::specs::inner::Judging::with_output))]
     fn add_output(&mut self, name: &Word<'a>) -> Result<(), BlifFault>
-        ensures exact { Gives (λ _. self.new) result (with_output self.old name.now) }
+        ensures exact { Gives BlifFault.NoMemory (λ _. self.new) result (with_output self.old name.now) }
         ensures used { OnOk result (words_used self.new ≡ words_used self.old) }
     {
         let name = name.bytes();
@@ -103,7 +103,7 @@ impl<'a> Reader<'a> {
 
     /// Takes up inputs, from left to right.
     fn add_inputs(&mut self, line: u32, names: &[Word<'a>]) -> Result<(), BlifFault>
-        ensures exact { Gives (λ _. self.new) result (each (with_input line) self.old names.now) }
+        ensures exact { Gives BlifFault.NoMemory (λ _. self.new) result (each (with_input line) self.old names.now) }
         ensures used { OnOk result (words_used self.new ≡ words_used self.old) }
     {
         for name in names {
@@ -114,7 +114,7 @@ impl<'a> Reader<'a> {
 
     /// Takes up outputs, from left to right.
     fn add_outputs(&mut self, names: &[Word<'a>]) -> Result<(), BlifFault>
-        ensures exact { Gives (λ _. self.new) result (each with_output self.old names.now) }
+        ensures exact { Gives BlifFault.NoMemory (λ _. self.new) result (each with_output self.old names.now) }
         ensures used { OnOk result (words_used self.new ≡ words_used self.old) }
     {
         for name in names {
@@ -126,7 +126,7 @@ impl<'a> Reader<'a> {
     /// Begins a cover of these names, of which the last is driven by the others.
     fn begin_cover(&mut self, line: u32, names: &[Word<'a>]) -> Result<(), BlifFault>
         requires { length names.now ≤ MAX_COLUMNS }
-        ensures exact { Gives (λ _. self.new) result (with_cover line self.old names.now) }
+        ensures exact { Gives BlifFault.NoMemory (λ _. self.new) result (with_cover line self.old names.now) }
         ensures used { self.old.cover ≡ None → OnOk result (words_used self.new ≤ words_used self.old + length names.now + 1) }
     {
         let signals = signals(self.alloc, &mut self.names, names)?;
@@ -140,7 +140,7 @@ impl<'a> Reader<'a> {
     /// Takes up a row of the open cover.
     fn add_row(&mut self, line: u32, words: &[Word]) -> Result<(), BlifFault>
         requires { IfSome self.old.cover (λ e. length e.cover.rows < MAX_ROWS) }
-        ensures exact { Gives (λ _. self.new) result (row_of line self.old self.old.cover words.now) }
+        ensures exact { Gives BlifFault.NoMemory (λ _. self.new) result (row_of line self.old self.old.cover words.now) }
         ensures used { OnOk result (words_used self.new ≤ words_used self.old + 1) }
     {
         let Some(equation) = self.cover.take() else {

@@ -1,6 +1,6 @@
 ghost use Rattle.std.specs.Prelude.{◌≡◌, ◌==◌, length, Some, None, false, is_some, IfSome, IfOk, OnOk, if◌then◌else◌};
 ghost use Rattle.std.specs.List.{list_all};
-ghost use Rattle.pim_blif.specs.Steps.{Gives};
+ghost use Rattle.pim_io.specs.Readings.{Gives};
 ghost use Rattle.pim_blif.specs.Rows.{is_cell, cell_of, cells_of, pattern_of, output_of, row_words, value_of, is_mixed, row_at};
 
 use crate::fault::BlifFault;
@@ -59,7 +59,7 @@ fn cell_of(b: u8) -> Option<Bit3>
 
 /// Puts the cells of a pattern in the place of others. Linear in the pattern.
 fn put_cells(line: u32, pattern: &[u8], cells: &mut Vec<Bit3>) -> Result<(), BlifFault>
-    ensures { Gives (λ _. cells.new.items) result
+    ensures { Gives BlifFault.NoMemory (λ _. cells.new.items) result
         (if list_all is_cell pattern.now then Ok (cells_of pattern.now) else Err (BlifFault.Syntax line)) }
 {
     cells.clear();
@@ -82,7 +82,7 @@ pub(crate) fn read_row(
     words: &[Word],
     cells: &mut Vec<Bit3>,
 ) -> Result<bool, BlifFault>
-    ensures exact { Gives (λ value. record { cells = cells.new.items; value = value }) result
+    ensures exact { Gives BlifFault.NoMemory (λ value. record { cells = cells.new.items; value = value }) result
         (row_at line width first words.now) }
     ensures whole { OnOk result (length cells.new.items ≡ width) }
     ensures phase { IfOk result (λ value. is_mixed first value ≡ false) }

@@ -1,9 +1,9 @@
 ghost use Rattle.std.specs.Prelude.{◌≡◌, ◌<◌, All, length, IfOk, OnOk};
+ghost use Rattle.pim_io.specs.Readings.{Gives};
 ghost use Rattle.pim_net.specs.Labels.{IsName};
 ghost use Rattle.pim_net.specs.declared.limits.TheConstants.{MAX_SIGNALS};
 ghost use Rattle.pim_blif.specs.Signals.{number_of};
 ghost use Rattle.pim_blif.specs.inner.Judging.{named, numbered};
-ghost use Rattle.pim_blif.specs.Steps.{Gives};
 
 use crate::fault::BlifFault;
 use crate::table::NameTable;
@@ -17,7 +17,7 @@ use std::alloc::Global;
 #[tactic(auto, using(crate::proofs::Found::below_is, crate::proofs::Found::named_some, crate::proofs::Found::named_none))]
 pub(crate) fn signal<'a>(names: &mut NameTable<'a>, name: &'a [u8]) -> Result<u32, BlifFault>
     requires { 0 < length name.now }
-    ensures exact { Gives (λ _. names.new) result (named names.old name.now) }
+    ensures exact { Gives BlifFault.NoMemory (λ _. names.new) result (named names.old name.now) }
     ensures number { IfOk result (λ sig. sig ≡ number_of names.old name.now) }
     ensures below { IfOk result (λ sig. sig < MAX_SIGNALS) }
     ensures labelled { OnOk result (IsName name.now) }
@@ -37,7 +37,7 @@ pub(crate) fn signals<'a>(
     names: &mut NameTable<'a>,
     words: &[Word<'a>],
 ) -> Result<Vec<u32>, BlifFault>
-    ensures exact { Gives (λ signals. (signals.items, names.new)) result (numbered names.old words.now) }
+    ensures exact { Gives BlifFault.NoMemory (λ signals. (signals.items, names.new)) result (numbered names.old words.now) }
     ensures below { IfOk result (λ signals. All (λ s. s < MAX_SIGNALS) signals.items) }
     ensures count { IfOk result (λ signals. length signals.items ≡ length words.now) }
 {

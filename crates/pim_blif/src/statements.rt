@@ -1,5 +1,6 @@
 ghost use Rattle.std.specs.Prelude.{◌≡◌, ◌+◌, ◌*◌, ◌<◌, ◌≤◌, ◌∷◌, [], None, length, IfOk, IfSome, MatchOption};
 ghost use Rattle.pim_io.specs.Lines.{lines, lines_left};
+ghost use Rattle.pim_io.specs.declared.limits.TheConstants.{MAX_PROGRAM};
 ghost use Rattle.pim_blif.specs.Statements.{stated, statements_after};
 ghost use Rattle.pim_blif.specs.inner.Reading.{room, statements_left};
 
@@ -30,7 +31,7 @@ impl<'a> Statements<'a> {
     /// A walk that stands before the first statement of the bytes. It takes no memory.
     #[tactic(auto, using(crate::proofs::Rooms::room_of_lines))]
     pub(crate) fn new(alloc: Global, bytes: &'a [u8]) -> Statements<'a>
-        requires { length bytes.now ≤ 536870912 }
+        requires { length bytes.now ≤ MAX_PROGRAM }
         ensures start { result ≡ record { words = []; lines = lines bytes.now } }
         ensures room { room result.lines ≤ length bytes.now + 1 }
     {

@@ -20,7 +20,7 @@ use Rattle.pim_blif.specs.Covers.{all_but_last, CoverText, open_cover, equation_
 use Rattle.pim_blif.specs.Netlists.{names_of, inputs_of, outputs_of, draft_with}
 use Rattle.pim_blif.specs.Files.{judged_net}
 use Rattle.pim_blif.specs.StatementFaults.{unsupported}
-use Rattle.pim_blif.specs.Steps.{◌>>=◌}
+use Rattle.pim_io.specs.Readings.{◌>>=◌}
 
 -- the covers that were ended by a directive
 abbrev pub ended_behind : Option Directive → Option CoverText → List CoverText → List CoverText

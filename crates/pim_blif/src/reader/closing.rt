@@ -1,10 +1,10 @@
 ghost use Rattle.std.specs.Prelude.{◌≡◌, ◌≤◌, ◌⊎◌, map};
+ghost use Rattle.pim_io.specs.Readings.{Gives};
 ghost use Rattle.pim_io.specs.Names.{label};
 ghost use Rattle.pim_net.specs.Netlist.{draft_of};
 ghost use Rattle.pim_net.specs.declared.limits.TheConstants.{MAX_EQUATIONS};
 ghost use Rattle.pim_blif.specs.inner.Readers.{words_used};
 ghost use Rattle.pim_blif.specs.inner.Judging.{outcome};
-ghost use Rattle.pim_blif.specs.Steps.{Gives};
 
 use super::Reader;
 use crate::fault::BlifFault;
@@ -31,7 +31,7 @@ impl<'a> Reader<'a> {
     #[tactic(auto, unfolding(crate::specs::Files::judged_net))]
     pub(crate) fn net(mut self) -> Result<Net, BlifFault>
         requires { words_used self ≤ MAX_EQUATIONS }
-        ensures { Gives draft_of result (outcome self.entry) }
+        ensures { Gives BlifFault.NoMemory draft_of result (outcome self.entry) }
     {
         if !self.started {
             return Err(BlifFault::Syntax(1));

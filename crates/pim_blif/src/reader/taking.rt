@@ -1,10 +1,10 @@
 ghost use Rattle.std.specs.Prelude.{◌≡◌, ◌+◌, ◌<◌, ◌≤◌, None, length, option_map, IfOk, OnOk};
+ghost use Rattle.pim_io.specs.Readings.{Gives};
 ghost use Rattle.pim_net.specs.declared.limits.TheConstants.{MAX_EQUATIONS};
 ghost use Rattle.pim_blif.specs.StatementFaults.{unsupported};
 ghost use Rattle.pim_blif.specs.inner.Found.{directive_view};
 ghost use Rattle.pim_blif.specs.inner.Readers.{words_used};
 ghost use Rattle.pim_blif.specs.inner.Judging.{allowed, directed, judged, without_cover};
-ghost use Rattle.pim_blif.specs.Steps.{Gives};
 
 use super::Reader;
 use crate::directive::Directive;
@@ -26,7 +26,7 @@ impl<'a> Reader<'a> {
     /// Takes up a statement, or finds its fault. Linear in its words and their bytes.
     pub(crate) fn take(&mut self, statement: &Statement<'a, '_>) -> Result<(), BlifFault>
         requires { words_used self.old + length statement.now.words ≤ MAX_EQUATIONS }
-        ensures exact { Gives (λ _. self.new) result (judged self.old statement.now.line statement.now.words) }
+        ensures exact { Gives BlifFault.NoMemory (λ _. self.new) result (judged self.old statement.now.line statement.now.words) }
         ensures used { OnOk result (words_used self.new ≤ words_used self.old + length statement.now.words) }
     {
         let directive = statement.directive();
@@ -42,7 +42,7 @@ impl<'a> Reader<'a> {
 
     /// Whether a statement may stand: `.model` stands before every other statement, and behind `.end` no other may stand.
     fn allow(&self, statement: &Statement, directive: Option<Directive>) -> Result<(), BlifFault>
-        ensures { Gives (λ _. self.now) result
+        ensures { Gives BlifFault.NoMemory (λ _. self.now) result
             (allowed statement.now.line self.now statement.now.words (option_map directive_view directive)) }
     {
         if directive == Some(Directive::Model) {
@@ -64,7 +64,7 @@ impl<'a> Reader<'a> {
     ) -> Result<(), BlifFault>
         requires few { length statement.now.words ≤ MAX_EQUATIONS }
         requires closed { self.old.cover ≡ None }
-        ensures exact { Gives (λ _. self.new) result
+        ensures exact { Gives BlifFault.NoMemory (λ _. self.new) result
             (directed statement.now.line self.old statement.now.words (directive_view directive)) }
         ensures used { OnOk result (words_used self.new ≤ words_used self.old + length statement.now.words) }
     {
