@@ -2,10 +2,11 @@ ghost use Rattle.std.specs.Prelude.{◌≡◌, Some, None, if◌then◌else◌, 
 ghost use Rattle.std.specs.Bool.{OnFalse};
 ghost use Rattle.pim_io.specs.Lines.{line_view};
 ghost use Rattle.pim_io.specs.Names.{IsLabel};
-ghost use Rattle.pim_file.specs.LineForms.{port_view};
-ghost use Rattle.pim_file.specs.Steps.{Gives};
+ghost use Rattle.pim_file.specs.inner.PortLines.{port_view};
+ghost use Rattle.pim_io.specs.Readings.{Gives};
 ghost use Rattle.pim_file.specs.Reading.{start, begun, with_input, with_output, with_instr, after_form, after_target, after_cells, after_input, after_output, after_cycles, after_outputs, after_inputs, after_end, after_instrs, after_in, after, is_ended, line_read};
-ghost use Rattle.pim_file.specs.ProgramFile.{finished, within_limit};
+ghost use Rattle.pim_file.specs.ProgramFile.{finished};
+ghost use Rattle.pim_file.specs.inner.Kept.{within_limit};
 
 use crate::fault::FileFault;
 use crate::fields::is_text;
@@ -52,7 +53,7 @@ impl Reader {
 
     /// The next line.
     pub(crate) fn line(&mut self, line: Line) -> Result<(), FileFault>
-        ensures { Gives (λ _. self.new) result (line_read within_limit self.old (line_view line.entry)) }
+        ensures { Gives FileFault.NoMemory (λ _. self.new) result (line_read within_limit self.old (line_view line.entry)) }
     {
         if !line.ended && self.section != Section::Ended {
             return Err(FileFault::Truncated);

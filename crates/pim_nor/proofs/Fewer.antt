@@ -8,13 +8,13 @@ use Rattle.pim_aig.specs.Literals.{complement}
 use Rattle.pim_aig.specs.declared.literal.Lit.{Lit}
 use Rattle.pim_nor.specs.Leaves.{leaves, operands, and_at, widened, distinct}
 use Rattle.pim_nor.specs.Lowered.{marks_of, nors}
-use Rattle.pim_nor.specs.Named.{slots, source, literal_at, gate_of, gate_at, nor_of, nor_of_leaves}
+use Rattle.pim_nor.specs.Named.{slots, source, literal_at, gate_of, gate_at, nor_of_leaves}
 use Rattle.pim_nor.specs.Network.{pins, is_nor, nor_count}
 use Rattle.pim_nor.specs.Reached.{numbered_gate, kept}
 use Rattle.pim_nor.specs.Reaching.{IsSlotReached, by_output, by_gate}
 use Rattle.pim_nor.specs.declared.lowering.Width.TheVariants.{Two, Four}
 use Rattle.pim_nor.specs.declared.network.Gate.{Gate}
-use Rattle.pim_nor.specs.declared.network.Gate.TheVariants.{One, Not, Nor, Nor3, Nor4}
+use Rattle.pim_nor.specs.declared.network.Gate.TheVariants.{One, Not}
 use Rattle.pim_nor.specs.declared.network.Pin.{Pin}
 use Rattle.pim_nor.specs.declared.network.Pin.TheVariants.{Gate as Place}
 use Rattle.pim_nor.proofs.Constants.{is_nor-numbered, is_nor-nor_of}

@@ -1,14 +1,13 @@
 -- The graph of a network: its roots reach each gate, and no gate reads one twice.
-use Rattle.std.proofs.Common.{◌≡◌, ℕ, zero, suc, ◌+◌, ◌<◌, ◌≤◌, Bool, true, false, cond, eqb, ◌||◌, List, [], ◌∷◌, ◌++◌, length, get_or, fold, map, Contains, inl, inr, refl, sym, ◌∙◌, ap, subst, arith}
-use Rattle.std.proofs.lemmas.Bool.{cases_eq, cases_lt, cases_Bool, false≢true, cond_both, or_cases, or_left, or_right, eq-eqb, ne_eqb}
+use Rattle.std.proofs.Common.{◌≡◌, ℕ, zero, suc, ◌+◌, ◌<◌, ◌≤◌, Bool, true, false, cond, eqb, List, [], ◌∷◌, ◌++◌, length, get_or, fold, map, Contains, inl, inr, refl, sym, ap, subst, arith}
+use Rattle.std.proofs.lemmas.Bool.{cases_eq, cases_lt, false≢true, cond_both, or_cases, or_left, or_right, eq-eqb, ne_eqb}
 use Rattle.std.proofs.lemmas.List.{get_or-map, get_or_past, length-map}
-use Rattle.pim_graph.specs.Graphs.{GraphView, has, kids_of}
+use Rattle.pim_graph.specs.Graphs.{has, kids_of}
 use Rattle.pim_graph.specs.Orders.{IsReached}
 use Rattle.pim_graph.specs.Orders.IsReached.{as_root, as_child}
 use Rattle.pim_graph.specs.Readers.{occurrences}
 use Rattle.pim_nor.specs.GateGraphs.{with_gate, gates_among, gates_read, graph_of}
 use Rattle.pim_nor.specs.Network.{NorView, IsNetwork, pins}
-use Rattle.pim_nor.specs.declared.network.Gate.{Gate}
 use Rattle.pim_nor.specs.declared.network.Gate.TheVariants.{One}
 use Rattle.pim_nor.specs.declared.network.Pin.{Pin}
 use Rattle.pim_nor.specs.declared.network.Pin.TheVariants.{Input, Gate as Place}

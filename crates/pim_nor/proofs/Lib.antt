@@ -7,6 +7,7 @@ pub mod Counting
 pub mod Nors
 pub mod AndGates
 pub mod GateLists
+pub mod GateValues
 pub mod Sound
 pub mod Numbering
 pub mod PrunedValues

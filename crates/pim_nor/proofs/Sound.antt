@@ -19,7 +19,7 @@ use Rattle.pim_nor.specs.declared.network.Gate.TheVariants.{One, Not}
 use Rattle.pim_nor.specs.declared.network.Pin.{Pin}
 use Rattle.pim_nor.specs.declared.network.Pin.TheVariants.{Input, Gate as Place}
 use Rattle.pim_nor.proofs.Closure.{AreMarked, ReadBefore, length-mark_all, length-reached, mark_all-marks, reached-keeps_all, reached-closed}
-use Rattle.pim_nor.proofs.LeafLists.{AllOf, IsBefore, IsAnd, AreLeaves, leaves-AreLeaves}
+use Rattle.pim_nor.proofs.LeafLists.{AllOf, IsBefore, IsAnd, AreLeaves}
 use Rattle.pim_nor.proofs.LiteralValues.{pins-nor_of}
 use Rattle.pim_nor.proofs.Numbering.{length-kept, get_or-kept, numbered_gate-AreOfFirst, numbered-IsOfFirst_all}
 use Rattle.pim_nor.proofs.SlotLiterals.{literal_low, literal_mid, literal_high}

@@ -1,5 +1,6 @@
 pub mod inner
 pub mod GateGraphs
+pub mod Laws
 pub mod Leaves
 pub mod Lowered
 pub mod Named

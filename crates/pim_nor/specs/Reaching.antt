@@ -1,13 +1,11 @@
 -- Which gates the outputs of a graph reach.
-use Rattle.std.specs.Prelude.{ℕ, ◌<◌, ◌⊎◌, false, slice_index_or, Bool, List, length, Contains}
+use Rattle.std.specs.Prelude.{ℕ, false, slice_index_or, Bool, Contains}
 use Rattle.pim_aig.specs.Graph.{AigView}
 use Rattle.pim_nor.specs.Leaves.{leaves}
 use Rattle.pim_nor.specs.Lowered.{marks_of, roots}
 use Rattle.pim_nor.specs.Named.{gate_at}
-use Rattle.pim_nor.specs.Network.{NorView, pins}
+use Rattle.pim_nor.specs.Network.{pins}
 use Rattle.pim_nor.specs.declared.lowering.Width.{Width}
-use Rattle.pim_nor.specs.declared.network.Gate.{Gate}
-use Rattle.pim_nor.specs.declared.network.Gate.TheVariants.{One}
 use Rattle.pim_nor.specs.declared.network.Pin.TheVariants.{Gate as Place}
 
 -- the outputs reach the gate of a slot where one of them reads it, or a gate that they reach reads it

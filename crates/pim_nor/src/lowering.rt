@@ -40,6 +40,7 @@ pub fn lower(alloc: Global, aig: &Aig, width: Width) -> Result<NorNet, NoMemory>
     ensures no_more { OnOk result
         (nor_count (nors aig.now width_is.Four).gates ≤ nor_count (nors aig.now width_is.Two).gates) }
 {
+    aig.has_values();
     let inputs = aig.inputs();
     let plan = Plan::new(alloc, aig, width)?;
     let kept = Kept::of(alloc, reached(alloc, &plan)?)?;

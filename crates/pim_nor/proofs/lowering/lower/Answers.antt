@@ -1,4 +1,4 @@
-use Rattle.std.proofs.Common.{◌<◌, length, sym, ◌∙◌, ap, subst}
+use Rattle.std.proofs.Common.{sym, ◌∙◌, ap, subst}
 use Rattle.pim_nor.specs.Network.{IsNetwork, NorView}
 use Rattle.pim_nor.specs.Values.{out_values}
 use Rattle.pim_nor.proofs.Fewer.{nor_count-narrower}
@@ -24,7 +24,7 @@ returns-clause-values c =
     λ bits len.
     let marks_are = c.in_ok-kept.ensures ∙ c.in_ok-reached.ensures.marks in
     let e = c.in_ok-network.ensures ∙ plan-network c.args.aig.now c.args.width c.in_ok-plan.plan c.in_ok-plan.ensures c.in_ok-kept.kept _ _ _ marks_are c.inputs-inputs.ensures.count c.in_ok-gates.ensures c.in_ok-outs.ensures in
-    ap (λ (n : NorView). out_values n bits) e ∙ out_values-nors c.args.aig.now c.inputs-inputs.ensures.sound c.args.width bits len
+    ap (λ (n : NorView). out_values n bits) e ∙ out_values-nors c.args.aig.now c.inputs-inputs.ensures.sound c.has_values.ensures c.args.width bits len
 
 pub returns-clause-reached : goal.returns-clause-reached
 returns-clause-reached c =

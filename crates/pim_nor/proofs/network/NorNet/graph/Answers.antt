@@ -1,9 +1,9 @@
-use Rattle.std.proofs.Common.{◌≡◌, ℕ, ◌<◌, length, ap, ◌∙◌, sym, subst, arith}
+use Rattle.std.proofs.Common.{◌≡◌, ℕ, ◌<◌, length, ap, ◌∙◌, subst, arith}
 use Rattle.std.proofs.lemmas.List.{length-map}
 use Rattle.pim_graph.specs.Graphs.{GraphView}
 use Rattle.pim_graph.specs.Orders.{IsReached, order}
 use Rattle.pim_nor.specs.GateGraphs.{gates_read, graph_of}
-use Rattle.pim_nor.specs.Network.{NorView, IsNetwork}
+use Rattle.pim_nor.specs.Network.{IsNetwork}
 use Rattle.pim_nor.proofs.GraphReached.{graph_of-reached, graph_of-once}
 use Rattle.pim_nor.proofs.network.NorNet.graph.Goals as goal
 
