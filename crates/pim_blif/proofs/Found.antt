@@ -7,15 +7,15 @@ use Rattle.pim_io.specs.declared.limits.TheConstants.{MAX_NAME}
 use Rattle.pim_net.specs.declared.kind.Kind.TheVariants as kinds
 use Rattle.pim_net.specs.declared.limits.TheConstants.{MAX_SIGNALS}
 use Rattle.pim_blif.specs.declared.fault.BlifFault.TheVariants as faults
-use Rattle.pim_blif.specs.Signals.{number_of, is_known, with_name}
+use Rattle.pim_blif.specs.Signals.{signal_number, is_known, with_name}
 use Rattle.pim_blif.specs.inner.Judging.{named}
 use Rattle.pim_blif.specs.inner.Reading.{number_below}
 
 -- a name has a place among the names, or the place behind them
-pub number_within : (names : List (List ℕ)) (name : List ℕ) → number_of names name ≤ length names
+pub number_within : (names : List (List ℕ)) (name : List ℕ) → signal_number names name ≤ length names
 number_within [] name = omega arith
 number_within (known ∷ names) name =
-    elim (bytes_eq known name) as (λ t. cond t 0 (suc (number_of names name)) ≤ suc (length names)) [
+    elim (bytes_eq known name) as (λ t. cond t 0 (suc (signal_number names name)) ≤ suc (length names)) [
       | true ↦ omega arith
       | false ↦ omega (arith, number_within names name)
     ]
@@ -36,8 +36,8 @@ pub below_some : (n limit place : ℕ) → place ≡ n → place < limit → Som
 below_some n limit place same low = ap Some same ∙ sym (ap (λ t. cond t (Some n) None) (lt-ltb n limit (omega arith)))
 
 -- a number below a limit is the name's number
-pub below_is : (limit : ℕ) (names : List (List ℕ)) (name : List ℕ) (sig : ℕ) → Some sig ≡ number_below limit names name → (sig ≡ number_of names name) × (number_of names name < limit)
-below_is limit names name sig e = below_by (ltb (number_of names name) limit) (number_of names name) limit sig refl e
+pub below_is : (limit : ℕ) (names : List (List ℕ)) (name : List ℕ) (sig : ℕ) → Some sig ≡ number_below limit names name → (sig ≡ signal_number names name) × (signal_number names name < limit)
+below_is limit names name sig e = below_by (ltb (signal_number names name) limit) (signal_number names name) limit sig refl e
 
 above_by : (t : Bool) (n limit : ℕ) → t ≡ ltb n limit → None ≡ cond t (Some n) None → limit ≤ n
 above_by true n limit t_is e = absurd cc
@@ -54,7 +54,7 @@ named_some names after name sig short is same =
     by false true full l k f = ap Ok (sym (same ∙ ap (λ b. cond b names (names ++ name ∷ [])) k))
     by false false true l k f =
         let low = (below_is MAX_SIGNALS names name sig is).1 in
-        let behind : length names ≤ number_of names name = grind (arith, nat_tests) in
+        let behind : length names ≤ signal_number names name = grind (arith, nat_tests) in
         let most : MAX_SIGNALS ≤ length names = grind (arith, nat_tests) in
         absurd (omega arith)
     by false false false l k f = ap Ok (sym (same ∙ ap (λ b. cond b names (names ++ name ∷ [])) k))
@@ -64,14 +64,14 @@ pub named_none : (names : List (List ℕ)) (name : List ℕ) → length name ≤
 named_none names name short few is =
     by (ltb MAX_NAME (length name)) (is_known names name) (leb MAX_SIGNALS (length names)) refl refl refl
   where
-    high : MAX_SIGNALS ≤ number_of names name
-    high = above_by (ltb (number_of names name) MAX_SIGNALS) (number_of names name) MAX_SIGNALS refl is
+    high : MAX_SIGNALS ≤ signal_number names name
+    high = above_by (ltb (signal_number names name) MAX_SIGNALS) (signal_number names name) MAX_SIGNALS refl is
 
     by : (long known full : Bool) → ltb MAX_NAME (length name) ≡ long → is_known names name ≡ known → leb MAX_SIGNALS (length names) ≡ full
         → cond long (Err (faults.TooLarge kinds.Name)) (cond known (Ok names) (cond full (Err (faults.TooLarge kinds.Signals)) (Ok (names ++ name ∷ [])))) ≡ Err (faults.TooLarge kinds.Signals)
     by true known full l k f = let far : MAX_NAME < length name = ltb-true MAX_NAME (length name) l in absurd (omega arith)
     by false true full l k f =
-        let among : number_of names name < length names = ltb-true (number_of names name) (length names) k in
+        let among : signal_number names name < length names = ltb-true (signal_number names name) (length names) k in
         absurd (omega (arith, high))
     by false false true l k f = refl
     by false false false l k f =

@@ -5,7 +5,7 @@ use Rattle.std.proofs.lemmas.Bool.{eq-eqb, ne_eqb, cases_eq}
 use Rattle.std.proofs.lemmas.List.{length-set, get_or-set_same, get_or-set_other, length-append}
 use Rattle.std.proofs.lemmas.List.Sums.{count_by-le-length, sum_by-set}
 use Rattle.pim_blif.specs.declared.fault.BlifFault.TheVariants as faults
-use Rattle.pim_blif.specs.Signals.{number_of}
+use Rattle.pim_blif.specs.Signals.{signal_number}
 use Rattle.pim_blif.specs.inner.InputMarks.{is_marked, AreMarked}
 use Rattle.pim_blif.specs.inner.Judging.{Known, named, with_input}
 
@@ -66,8 +66,8 @@ pub marks_none : AreMarked [] []
 marks_none = record { same = λ s. refl; once = refl }
 
 -- an input whose signal is marked already is one twice
-pub twice_is : (line : ℕ) (k : Known) (marks : List Bool) (name : List ℕ) (after : List (List ℕ)) → AreMarked k.draft.inputs marks → named k.names name ≡ Ok after → is_marked marks (number_of k.names name) ≡ true → with_input line k name ≡ Err (faults.TwiceInput line)
+pub twice_is : (line : ℕ) (k : Known) (marks : List Bool) (name : List ℕ) (after : List (List ℕ)) → AreMarked k.draft.inputs marks → named k.names name ≡ Ok after → is_marked marks (signal_number k.names name) ≡ true → with_input line k name ≡ Err (faults.TwiceInput line)
 unfolding with_input
 twice_is line k marks name after are taken marked =
-    let twice : list_any (λ i. eqb i (number_of k.names name)) k.draft.inputs ≡ true = sym (are.same (number_of k.names name)) ∙ marked in
+    let twice : list_any (λ i. eqb i (signal_number k.names name)) k.draft.inputs ≡ true = sym (are.same (signal_number k.names name)) ∙ marked in
     rw (taken, twice) refl

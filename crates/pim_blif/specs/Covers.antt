@@ -6,7 +6,7 @@ use Rattle.pim_net.specs.Covers.{CoverView}
 use Rattle.pim_net.specs.declared.parts.Equation.{Equation}
 use Rattle.pim_blif.specs.Statements.{Statement}
 use Rattle.pim_blif.specs.Directives.{Directive, Names, directive, arguments}
-use Rattle.pim_blif.specs.Signals.{number_of}
+use Rattle.pim_blif.specs.Signals.{signal_number}
 use Rattle.pim_blif.specs.Rows.{cells_of, pattern_of, output_of}
 
 -- a `.names` statement and its rows: the names of its columns, the name that it drives, and the words of each row
@@ -73,11 +73,11 @@ phase_of (words ∷ rows) = is_one words
 -- the cover of signals, where names have these numbers
 abbrev pub cover_of : List (List ℕ) → CoverText → CoverView
 cover_of names cover = record {
-  ins = map (number_of names) cover.columns;
+  ins = map (signal_number names) cover.columns;
   rows = map (λ words. cells_of (pattern_of words)) cover.rows;
   phase = phase_of cover.rows;
 }
 
 -- the equation of a cover
 abbrev pub equation_of : List (List ℕ) → CoverText → Equation
-equation_of names cover = record { sig = number_of names cover.driven; cover = cover_of names cover }
+equation_of names cover = record { sig = signal_number names cover.driven; cover = cover_of names cover }

@@ -151,8 +151,8 @@ impl<'a> Reader<'a> {
         Ok(())
     }
 
-    /// Ends the cover that is open, as every directive does.
-    fn end_cover(&mut self) -> Result<(), NoMemory>
+    /// Closes the cover that is open, as every directive does.
+    fn close_cover(&mut self) -> Result<(), NoMemory>
         requires { length self.old.draft.equations + 1 < MAX_EQUATIONS }
         ensures exact { OnOk result (self.new ≡ without_cover self.old) }
         ensures used { OnOk result (words_used self.new ≤ words_used self.old) }

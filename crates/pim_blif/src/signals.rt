@@ -2,7 +2,7 @@ ghost use Rattle.std.specs.Prelude.{◌≡◌, ◌<◌, All, length, IfOk, OnOk}
 ghost use Rattle.pim_io.specs.Readings.{Gives};
 ghost use Rattle.pim_net.specs.Labels.{IsName};
 ghost use Rattle.pim_net.specs.declared.limits.TheConstants.{MAX_SIGNALS};
-ghost use Rattle.pim_blif.specs.Signals.{number_of};
+ghost use Rattle.pim_blif.specs.Signals.{signal_number};
 ghost use Rattle.pim_blif.specs.inner.Judging.{named, numbered};
 
 use crate::fault::BlifFault;
@@ -18,7 +18,7 @@ use std::alloc::Global;
 pub(crate) fn signal<'a>(names: &mut NameTable<'a>, name: &'a [u8]) -> Result<u32, BlifFault>
     requires { 0 < length name.now }
     ensures exact { Gives BlifFault.NoMemory (λ _. names.new) result (named names.old name.now) }
-    ensures number { IfOk result (λ sig. sig ≡ number_of names.old name.now) }
+    ensures number { IfOk result (λ sig. sig ≡ signal_number names.old name.now) }
     ensures below { IfOk result (λ sig. sig < MAX_SIGNALS) }
     ensures labelled { OnOk result (IsName name.now) }
 {

@@ -14,7 +14,7 @@ use Rattle.pim_blif.specs.declared.fault.BlifFault.{BlifFault}
 use Rattle.pim_blif.specs.declared.fault.BlifFault.TheVariants as faults
 use Rattle.pim_blif.specs.Statements.{Statement}
 use Rattle.pim_blif.specs.Directives.{Directive, Model, Inputs, Outputs, Names, End, PassedOver, Unsupported, directive, directive_of, first_word, is_end}
-use Rattle.pim_blif.specs.Signals.{number_of, is_known}
+use Rattle.pim_blif.specs.Signals.{signal_number, is_known}
 use Rattle.pim_blif.specs.Rows.{RowView, row_at}
 use Rattle.pim_blif.specs.Covers.{all_but_last, CoverText, open_cover, equation_of}
 use Rattle.pim_blif.specs.Netlists.{names_of, inputs_of, outputs_of, draft_with}
@@ -63,12 +63,12 @@ named names name =
 unfoldable pub with_input : ℕ → Known → List ℕ → Result Known BlifFault
 with_input line k name =
     named k.names name >>= λ names.
-    if list_any (λ s. s == number_of k.names name) k.draft.inputs
+    if list_any (λ s. s == signal_number k.names name) k.draft.inputs
     then Err (faults.TwiceInput line)
     else Ok (record k {
       names = names;
       draft = record k.draft {
-        inputs = k.draft.inputs ++ number_of k.names name ∷ [];
+        inputs = k.draft.inputs ++ signal_number k.names name ∷ [];
         input_labels = k.draft.input_labels ++ label name ∷ [];
       };
     })
@@ -82,7 +82,7 @@ with_output k name =
     else Ok (record k {
       names = names;
       draft = record k.draft {
-        outputs = k.draft.outputs ++ record { sig = number_of k.names name; neg = false } ∷ [];
+        outputs = k.draft.outputs ++ record { sig = signal_number k.names name; neg = false } ∷ [];
         output_labels = k.draft.output_labels ++ label name ∷ [];
       };
     })
@@ -98,7 +98,7 @@ numbered names [] = Ok ([], names)
 numbered names (word ∷ words) = do
   after ← named names word
   others ← numbered after words
-  Ok (number_of names word ∷ others.0, others.1)
+  Ok (signal_number names word ∷ others.0, others.1)
 
 -- the equation of a cover without rows, of which the last of these signals is driven by the others
 abbrev pub empty_cover : List ℕ → Equation

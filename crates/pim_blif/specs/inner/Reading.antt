@@ -2,7 +2,7 @@
 use Rattle.std.specs.Prelude.{ℕ, ◌+◌, List, [], ◌∷◌, length, map, nat_lt, if◌then◌else◌, Option, Some, None}
 use Rattle.std.specs.Borrow.{Bor}
 use Rattle.pim_io.specs.Lines.{LineView}
-use Rattle.pim_blif.specs.Signals.{number_of}
+use Rattle.pim_blif.specs.Signals.{signal_number}
 use Rattle.pim_blif.specs.Statements.{Statement, statements_after}
 
 -- the words of the present statement, and the lines that are left
@@ -25,4 +25,4 @@ room (line ∷ lines) = length line.text + 1 + room lines
 
 -- the number of a name among names, a new one among them, if it is below a limit
 abbrev pub number_below : ℕ → List (List ℕ) → List ℕ → Option ℕ
-number_below limit names name = if nat_lt (number_of names name) limit then Some (number_of names name) else None
+number_below limit names name = if nat_lt (signal_number names name) limit then Some (signal_number names name) else None

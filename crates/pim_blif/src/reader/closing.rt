@@ -36,7 +36,7 @@ impl<'a> Reader<'a> {
         if !self.started {
             return Err(BlifFault::Syntax(1));
         }
-        self.end_cover()?;
+        self.close_cover()?;
         match Net::check(self.alloc, self.draft) {
             Ok(net) => Ok(net),
             Err(fault) => Err(labelled(self.alloc, &self.names, fault)),

@@ -34,7 +34,7 @@ impl<'a> Reader<'a> {
         match directive {
             None => self.add_row(statement.line(), statement.words()),
             Some(directive) => {
-                self.end_cover()?;
+                self.close_cover()?;
                 self.direct(statement, directive)
             }
         }
