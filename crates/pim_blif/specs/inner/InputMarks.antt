@@ -1,4 +1,4 @@
--- Which signals are inputs, as a mark for each signal up to some number.
+-- Inner: which signals are inputs, as a mark for each signal up to some number.
 use Rattle.std.specs.Prelude.{◌≡◌, ◌==◌, ℕ, Bool, false, List, length, count_by, slice_index_or}
 use Rattle.std.specs.List.{list_any}
 

@@ -1,4 +1,4 @@
--- What a reader knows behind each statement, or the fault that it meets there: the fault is that of the statement, and what
+-- Inner: what a reader knows behind each statement, or the fault that it meets there: the fault is that of the statement, and what
 -- is known in the end is the netlist of the file (proofs/Faulty.antt and proofs/Whole.antt).
 use Rattle.std.specs.Prelude.{ℕ, ◌-◌, ◌==◌, List, [], ◌∷◌, ◌++◌, Bool, true, false, if◌then◌else◌, length, reverse, drop, nat_lt, nat_le, slice_index_or, Option, Some, None, option_map, Result, Ok, Err}
 use Rattle.std.specs.List.{list_any}
@@ -6,20 +6,31 @@ use Rattle.std.specs.Option.{option_to_list}
 use Rattle.pim_io.specs.Names.{label}
 use Rattle.pim_net.specs.Covers.{CoverView}
 use Rattle.pim_net.specs.Netlist.{DraftView}
+use Rattle.pim_io.specs.declared.limits.TheConstants.{MAX_NAME}
+use Rattle.pim_net.specs.declared.limits.TheConstants.{MAX_OUTPUTS, MAX_SIGNALS}
 use Rattle.pim_net.specs.declared.kind.Kind.TheVariants as kinds
 use Rattle.pim_net.specs.declared.parts.Equation.{Equation}
 use Rattle.pim_blif.specs.declared.fault.BlifFault.{BlifFault}
 use Rattle.pim_blif.specs.declared.fault.BlifFault.TheVariants as faults
-use Rattle.pim_blif.specs.declared.directive.Directive.{Directive}
-use Rattle.pim_blif.specs.declared.directive.Directive.TheVariants.{Model, Inputs, Outputs, Names, End, PassedOver, Unsupported}
 use Rattle.pim_blif.specs.Statements.{Statement}
-use Rattle.pim_blif.specs.Directives.{directive, directive_of, first_word, is_end}
-use Rattle.pim_blif.specs.Signals.{number_of, is_known}
+use Rattle.pim_blif.specs.Directives.{Directive, Model, Inputs, Outputs, Names, End, PassedOver, Unsupported, directive, directive_of, first_word, is_end}
+use Rattle.pim_blif.specs.Signals.{signal_number, is_known}
 use Rattle.pim_blif.specs.Rows.{RowView, row_at}
-use Rattle.pim_blif.specs.Covers.{all_but_last, open_cover, ended_covers, equation_of}
+use Rattle.pim_blif.specs.Covers.{all_but_last, CoverText, open_cover, equation_of}
 use Rattle.pim_blif.specs.Netlists.{names_of, inputs_of, outputs_of, draft_with}
+use Rattle.pim_blif.specs.Files.{judged_net}
 use Rattle.pim_blif.specs.StatementFaults.{unsupported}
-use Rattle.pim_blif.specs.Steps.{◌>>=◌}
+use Rattle.pim_io.specs.Readings.{◌>>=◌}
+
+-- the covers that were ended by a directive
+abbrev pub ended_behind : Option Directive → Option CoverText → List CoverText → List CoverText
+ended_behind None cover covers = covers
+ended_behind (Some d) cover covers = covers ++ option_to_list cover
+
+-- the covers of these statements, the latest of which comes first, without the one that is open
+abbrev pub ended_covers : List Statement → List CoverText
+ended_covers [] = []
+ended_covers (s ∷ before) = ended_behind (directive s) (open_cover before) (ended_covers before)
 
 -- what the statements before a statement say: the names of the signals; the inputs, the outputs and the covers that were
 -- ended; the cover that is open; whether there was a statement; and whether one of them ended the model
@@ -43,21 +54,21 @@ known_from before = record {
 -- the names with a further one, which has at most 4,096 bytes; there are at most 1,048,576 signals
 abbrev pub named : List (List ℕ) → List ℕ → Result (List (List ℕ)) BlifFault
 named names name =
-    if nat_lt 4096 (length name) then Err (faults.TooLarge kinds.Name)
+    if nat_lt MAX_NAME (length name) then Err (faults.TooLarge kinds.Name)
     else (if is_known names name then Ok names
-    else (if nat_le 1048576 (length names) then Err (faults.TooLarge kinds.Signals)
+    else (if nat_le MAX_SIGNALS (length names) then Err (faults.TooLarge kinds.Signals)
     else Ok (names ++ name ∷ [])))
 
 -- an input of a name, which is not one already
 unfoldable pub with_input : ℕ → Known → List ℕ → Result Known BlifFault
 with_input line k name =
     named k.names name >>= λ names.
-    if list_any (λ s. s == number_of k.names name) k.draft.inputs
+    if list_any (λ s. s == signal_number k.names name) k.draft.inputs
     then Err (faults.TwiceInput line)
     else Ok (record k {
       names = names;
       draft = record k.draft {
-        inputs = k.draft.inputs ++ number_of k.names name ∷ [];
+        inputs = k.draft.inputs ++ signal_number k.names name ∷ [];
         input_labels = k.draft.input_labels ++ label name ∷ [];
       };
     })
@@ -66,12 +77,12 @@ with_input line k name =
 unfoldable pub with_output : Known → List ℕ → Result Known BlifFault
 with_output k name =
     named k.names name >>= λ names.
-    if nat_le 1048576 (length k.draft.outputs)
+    if nat_le MAX_OUTPUTS (length k.draft.outputs)
     then Err (faults.TooLarge kinds.Outputs)
     else Ok (record k {
       names = names;
       draft = record k.draft {
-        outputs = k.draft.outputs ++ record { sig = number_of k.names name; neg = false } ∷ [];
+        outputs = k.draft.outputs ++ record { sig = signal_number k.names name; neg = false } ∷ [];
         output_labels = k.draft.output_labels ++ label name ∷ [];
       };
     })
@@ -87,7 +98,7 @@ numbered names [] = Ok ([], names)
 numbered names (word ∷ words) = do
   after ← named names word
   others ← numbered after words
-  Ok (number_of names word ∷ others.0, others.1)
+  Ok (signal_number names word ∷ others.0, others.1)
 
 -- the equation of a cover without rows, of which the last of these signals is driven by the others
 abbrev pub empty_cover : List ℕ → Equation
@@ -159,3 +170,7 @@ judged k line words =
 abbrev pub known_after : Known → List Statement → Result Known BlifFault
 known_after k [] = Ok k
 known_after k (s ∷ rest) = judged k s.line s.words >>= λ next. known_after next rest
+
+-- the netlist of all that is known, where there was a statement; the cover that is open ends with the file
+abbrev pub outcome : Known → Result DraftView BlifFault
+outcome k = if k.started then judged_net k.names (without_cover k).draft else Err (faults.Syntax 1)
