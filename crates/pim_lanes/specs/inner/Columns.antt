@@ -1,4 +1,4 @@
--- Columns of words that stand one after another in one list.
+-- Inner: columns of words that stand one after another in one list.
 use Rattle.std.specs.Prelude.{◌≡◌, ◌≢◌, ℕ, ◌*◌, ◌<◌, Bool, List, length}
 use Rattle.pim_io.specs.Lanes.{lane, column_in}
 

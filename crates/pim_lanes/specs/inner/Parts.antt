@@ -1,4 +1,4 @@
--- A list of words of which a part is lent for writing.
+-- Inner: a list of words of which a part is lent for writing.
 use Rattle.std.specs.Prelude.{ℕ, List}
 use Rattle.std.specs.Borrow.{Fml, MutBor, RattleType, Lends, Array, u64}
 use Rattle.std.specs.Vec.{with_items, with_items_from}

@@ -1,4 +1,4 @@
--- What the kernels make of words.
+-- Inner: what the kernels make of words.
 use Rattle.std.specs.Prelude.{◌≡◌, ℕ, ◌-◌, ◌^◌, ◌<◌, ◌≤◌, List, slice_index, bit_and, bit_or}
 
 -- all 64 bits turned round
