@@ -1,6 +1,6 @@
 ghost use Rattle.std.specs.Prelude.{◌≡◌, ◌+◌, ◌*◌, ◌<◌, ◌≤◌, ◌++◌, ◌∷◌, ◌↔◌, [], length, IsTrue, OnOk, OnErr, IfOk};
 ghost use Rattle.pim_io.specs.Bits.{bits_of};
-ghost use Rattle.pim_io.specs.Outside.{Rose, TookAll, TookFirst};
+ghost use Rattle.pim_io.specs.Outside.{Wrote};
 ghost use Rattle.pim_vectors.specs.Tiles.{IsVector};
 ghost use Rattle.pim_batch.specs.Tables.{table, tile_rows, tile_words};
 
@@ -34,7 +34,7 @@ pub struct Batch<'a> {
 impl<'a> Model for Batch<'a> {
     ghost use Rattle.std.specs.Prelude.{map};
     ghost use Rattle.std.specs.List.{range_with_len};
-    ghost use Rattle.pim_vectors.specs.Tiles.{row_of};
+    ghost use Rattle.pim_vectors.specs.Tiles.{vector_of};
     ghost use Rattle.pim_batch.specs.Batches.{BatchView, IsBatch};
 
     ghost Value = { BatchView };
@@ -42,7 +42,7 @@ impl<'a> Model for Batch<'a> {
     ghost view = { λ b. record {
       program = b.program.now;
       fill = b.fill;
-      vectors = map (row_of b.vectors) (range_with_len 0 b.rows);
+      vectors = map (vector_of b.vectors) (range_with_len 0 b.rows);
     } };
 
     ghost invariant = { λ b. IsBatch b.program.now b.bank b.vectors b.results b.chunk.items b.rows b.most };
@@ -94,11 +94,8 @@ impl<'a> Batch<'a> {
     /// instruction and one for each cell that an Init names. Beside that the cost is linear in the cells and outputs and in the
     /// characters that are written: as many whole lines at once as 64 KiB hold, or one. Takes no memory.
     pub fn flush<K: Sink>(&mut self, output: &mut K) -> Result<(), SinkFault>
-        ensures whole { OnOk result (TookAll (K.taken output.old) (K.taken output.new)
-            (table self.old.program self.old.fill self.old.vectors)) }
-        ensures prefix { OnErr result (TookFirst (K.taken output.old) (K.taken output.new)
-            (table self.old.program self.old.fill self.old.vectors)) }
-        ensures counted { OnErr result (Rose (K.faults output.old) (K.faults output.new)) }
+        ensures wrote { Wrote result (K.taken output.old) (K.taken output.new) (K.faults output.old) (K.faults output.new)
+            (table self.old.program self.old.fill self.old.vectors) }
         ensures never_falls { K.faults output.old ≤ K.faults output.new }
         ensures emptied { OnOk result (self.new ≡ record self.old { vectors = [] }) }
         ensures stays { OnErr result (self.new ≡ self.old) }

@@ -17,7 +17,8 @@ use Rattle.std.specs.List.{list_all}
 use Rattle.std.specs.Borrow.{Bor}
 use Rattle.pim_vectors.specs.declared.limits.TheConstants.{MAX_LINES}
 use Rattle.pim_vectors.specs.Tiles.{IsVector}
-use Rattle.pim_vectors.specs.Lines.{line_len, lines, without_return}
+use Rattle.pim_io.specs.Lines.{without_return}
+use Rattle.pim_vectors.specs.Lines.{line_len, lines}
 use Rattle.pim_vectors.specs.Next.{IsAfter, LinesView, ended, handed, next_of, within_limit}
 use Rattle.pim_vectors.specs.declared.fault.LinesFault.{LinesFault}
 use Rattle.pim_vectors.specs.declared.fault.LinesFault.TheVariants as faults

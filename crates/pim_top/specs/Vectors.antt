@@ -5,7 +5,7 @@ use Rattle.pim_isa.specs.Programs.{ProgramView}
 use Rattle.pim_io.specs.Bits.{bits_of}
 use Rattle.pim_batch.specs.Tables.{table, tile_rows}
 use Rattle.pim_isa.specs.declared.target.Fill.{Fill}
-use Rattle.pim_vectors.specs.declared.limits.TheConstants.{MAX_BYTES}
+use Rattle.pim_io.specs.declared.limits.TheConstants.{MAX_INPUT}
 use Rattle.pim_vectors.specs.Lines.{line_len, lines}
 use Rattle.pim_vectors.specs.Next.{next_of}
 use Rattle.pim_vectors.specs.declared.fault.LinesFault.{LinesFault}
@@ -86,7 +86,7 @@ pub record StoppedAt (p : ProgramView) (fill : Fill) (bytes rest before after : 
   pub taken : after_lines count bytes ≡ held ++ rest
   pub waits : line_len held ≡ length held
   pub short : length held < length p.inputs + 2
-  pub within : length bytes ≤ length rest + MAX_BYTES
+  pub within : length bytes ≤ length rest + MAX_INPUT
 
 -- the output took the front of the result lines of the first vectors
 pub record RanInPart (p : ProgramView) (fill : Fill) (bytes before after : List ℕ) : Type 0 where

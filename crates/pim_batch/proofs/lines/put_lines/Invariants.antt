@@ -1,0 +1,11 @@
+use Rattle.std.proofs.Common.{◌≡◌, ◌+◌, ◌-◌, ◌*◌, length, take}
+use Rattle.pim_batch.specs.inner.TileLines.{row_lines_from}
+use Rattle.pim_batch.proofs.lines.put_lines.Given as goal
+
+-- the front of the list is the lines of the rows so far, and there is room for those that are left
+abbrev pub invariant-loop-k : goal.invariant-loop-k
+invariant-loop-k l = record {
+  done : take l.at l.lines ≡ row_lines_from l.results l.from l.k;
+  left : length l.lines ≡ l.at + (l.count - l.k) * l.width;
+  long : length l.lines ≡ length l.initial.lines;
+}
