@@ -54,6 +54,7 @@ How to read them:
 | `A × B`, `A ⊎ B`, `¬ A` | both hold; one holds; it doesn't hold |
 | `(x : A) → B`, `(x : A) × B` | B for every x; there is an x with B |
 | `record R .. where` | as a value, its parts; as a statement, all of these hold |
+| `data D where` | a type by its variants, each with its fields |
 | `≡`, `≢` | is equal, is not equal, as a statement; `==` as a truth value |
 | `ℕ`, `Bool`, `List A`, `Option A`, `Result A E` | natural numbers, truth values, lists, an A or none, an A or a fault |
 | `[]`, `x ∷ xs`, `++` | the empty list; x before the list xs; one list behind another |
@@ -95,6 +96,7 @@ ones are cited by functions alone that no other crate can call.
 
 WORD = re.compile(r"[A-Za-z_][\w'-]*|[^\s\w(){}\[\].,:◌]+")
 START = re.compile(r"(?:(?:pub|abbrev|unfoldable|opaque|record|data|theorem) )+(\S+)(?= |$)")
+DATA = re.compile(r"(?:pub )?data ")
 USE = re.compile(r"(?:pub )?use Rattle\.(pim_[\w.]+?)\.\{(.*)\}$")
 
 
@@ -106,7 +108,11 @@ class Definition:
     lines: list = field(default_factory=list)
 
     def words(self):
-        return set(WORD.findall("\n".join(self.lines)))
+        return list(dict.fromkeys(WORD.findall("\n".join(self.lines))))
+
+    def variants(self):
+        """The variants of a type that is defined by them."""
+        return [match[1] for line in self.lines[1:] if DATA.match(self.lines[0]) and (match := re.match(r"  (\S+) :", line))]
 
 
 @dataclass
@@ -121,6 +127,12 @@ class Spec:
     @property
     def key(self):
         return ".".join([self.crate, "specs", *self.path.with_suffix("").parts[1:]])
+
+    @property
+    def names(self):
+        """The names that the file defines, each with its definition's: a variant's is that of its type."""
+        variants = {name: found.name for found in self.definitions.values() for name in found.variants()}
+        return variants | {name: name for name in self.definitions}
 
     @property
     def is_inner(self):
@@ -149,6 +161,8 @@ def read_spec(crate, path):
         if line.startswith("--"):
             comment.append(line)
             current = None
+        elif not line and (spec.definitions or spec.about):
+            comment = []
         elif start:
             current = Definition(start[1].replace("◌", ""), comment, [line])
             spec.definitions[current.name] = current
@@ -186,7 +200,9 @@ def clause(text, name):
 def resolve(specs, uses, word):
     """What a word stands for that `uses` has: a definition, as module and name, or a type of the code."""
     module, name = uses.get(word, (None, None))
-    while module in specs and name not in specs[module].definitions:
+    while module in specs:
+        if name in specs[module].names:
+            return module, specs[module].names[name]
         module, name = specs[module].uses.get(name, (None, None))
     return (module, name) if module else None
 
@@ -204,9 +220,8 @@ def reached(specs):
         module, name = found
         if module in specs:
             spec = specs[module]
-            own = {name: (module, name) for name in spec.definitions}
-            words = WORD.findall("\n".join(spec.definitions[name].lines))
-            for word in dict.fromkeys(words):
+            own = {name: (module, name) for name in spec.names}
+            for word in spec.definitions[name].words():
                 meet(resolve(specs, own | spec.uses, word))
 
     for word in dict.fromkeys(WORD.findall(clause(text, name))):
@@ -231,16 +246,16 @@ def declaration(module, name):
 
 def without_marks(lines):
     """A comment as a sentence."""
-    return " ".join(line.removeprefix("--").strip() for line in lines)
+    return " ".join(line.removeprefix("--").strip() for line in lines if not line.startswith("-- --"))
 
 
 def aliases(specs, spec, definitions):
     """The names that these definitions use for a definition of another name."""
-    used = set().union(*(definition.words() for definition in definitions))
+    used = {word for definition in definitions for word in definition.words()}
     for word in sorted(used & set(spec.uses)):
-        found = resolve(specs, spec.uses, word)
-        if found[0] in specs and found[1] != word:
-            yield f"`{word}` is `{found[1]}` of {specs[found[0]].crate}, {specs[found[0]].path}."
+        module, name = spec.uses[word]
+        if module in specs and name != word:
+            yield f"`{word}` is `{name}` of {specs[module].crate}, {specs[module].path}."
 
 
 def plain(line):
@@ -253,7 +268,8 @@ def printed(specs, spec, names):
     definitions = [definition for definition in spec.definitions.values() if definition.name in names]
     lines = [f"**{spec.path}**: {without_marks(spec.about)}", *aliases(specs, spec, definitions), "", "```"]
     for definition in definitions:
-        lines += [*definition.comment, *map(plain, definition.lines), ""]
+        comment = [line for line in definition.comment if not line.startswith("-- --")]
+        lines += [*comment, *map(plain, definition.lines), ""]
     return [*lines[:-1], "```", ""]
 
 
