@@ -189,7 +189,7 @@ def sections(specs):
     """The sections above, and one for each other crate, which begins with what its first line says."""
     others = sorted({spec.crate for spec in specs.values()} - set(SECTIONS))
     lines = [(ROOT / "crates" / crate / "src" / "lib.rt").read_text().split("\n")[0] for crate in others]
-    return SECTIONS | {crate: ("Of a crate of its own", line.removeprefix("//! ")) for crate, line in zip(others, lines)}
+    return SECTIONS | {crate: ("More", line.removeprefix("//! ")) for crate, line in zip(others, lines)}
 
 
 def clause(text, name):
