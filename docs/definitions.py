@@ -27,6 +27,7 @@ SECTIONS = {
     "pim_nor": ("The NOR network", "The gates whose number decides how many cells are needed."),
     "pim_graph": ("Orders", "In which order gates are placed, and how many cells are held at once."),
     "pim_simpler": ("The schedule", "Which gate stands in which cell, and when a cell is used again."),
+    "pim_rm3": ("The PLiM schedules", "Which node stands in which cell, and which RM3 instructions give its value."),
     "pim_isa": ("Programs and the machine", "Instructions, what they do to a row of cells, and which programs are valid."),
     "pim_file": ("The text of a program", "How a program is written, and which bytes are read as one."),
     "pim_vectors": ("Vectors", "The lines of a source, and tiles of rows."),
@@ -181,10 +182,14 @@ def read_specs():
             spec = read_spec(crate, path)
             if spec.definitions:
                 specs[spec.key] = spec
-    unknown = {spec.crate for spec in specs.values()} - set(SECTIONS)
-    if unknown:
-        sys.exit(f"docs/definitions.py knows no section for {', '.join(sorted(unknown))}")
     return specs
+
+
+def sections(specs):
+    """The sections above, and one for each other crate, which begins with what its first line says."""
+    others = sorted({spec.crate for spec in specs.values()} - set(SECTIONS))
+    lines = [(ROOT / "crates" / crate / "src" / "lib.rt").read_text().split("\n")[0] for crate in others]
+    return SECTIONS | {crate: ("More", line.removeprefix("//! ")) for crate, line in zip(others, lines)}
 
 
 def clause(text, name):
@@ -281,7 +286,7 @@ def first_part(specs, met):
             crate, lines = declaration(module, name)
             types.setdefault(crate, {})["\n".join(lines)] = True
     page = []
-    for crate, (title, about) in SECTIONS.items():
+    for crate, (title, about) in sections(specs).items():
         files = list(dict.fromkeys(module for module, _ in met if module in specs and specs[module].crate == crate))
         if not files and crate not in types:
             continue
@@ -296,7 +301,7 @@ def first_part(specs, met):
 def other_part(specs, met):
     """The index of all other definitions."""
     page = []
-    for crate, (title, _) in SECTIONS.items():
+    for crate, (title, _) in sections(specs).items():
         rows = []
         for spec in sorted(specs.values(), key=lambda spec: (spec.is_inner, spec.key)):
             for definition in spec.definitions.values():
