@@ -30,17 +30,17 @@ pub data Kind (g : AigView) (l : ℕ) : Type 0 where
 
 pub kind_of : (g : AigView) (l : ℕ) → Kind g l
 kind_of g l = elim (eqb_tells (l / 2) 0) [
-      | inl z ↦ constant z.1 (rw z.0 refl)
-      | inr s ↦ elim (eqb_tells (l % 2) 1) [
-        | inl o ↦ inverse (omega (arith, s.1)) o.1 (rw (s.0, o.0) refl)
-        | inr e ↦
-            let even : l % 2 ≡ 0 = let r : l % 2 < 2 = omega arith in omega (arith, e.1) in
-            elim (leb_tells (l / 2) g.inputs) [
-              | inl i ↦ input (omega (arith, s.1)) even i.1 (rw (s.0, e.0, i.0) refl)
-              | inr a ↦ meet even a.1 (rw (s.0, e.0, a.0) refl)
-            ]
-      ]
-    ]
+  | inl z ↦ constant z.1 (rw z.0 refl)
+  | inr s ↦ elim (eqb_tells (l % 2) 1) [
+    | inl o ↦ inverse (omega (arith, s.1)) o.1 (rw (s.0, o.0) refl)
+    | inr e ↦
+        let even : l % 2 ≡ 0 = let r : l % 2 < 2 = omega arith in omega (arith, e.1) in
+        elim (leb_tells (l / 2) g.inputs) [
+          | inl i ↦ input (omega (arith, s.1)) even i.1 (rw (s.0, e.0, i.0) refl)
+          | inr a ↦ meet even a.1 (rw (s.0, e.0, a.0) refl)
+        ]
+  ]
+]
 
 -- what a gate of the graph reads
 pub kids_at : (g : AigView) (l : ℕ) → l < 2 * nodes g → kids_of (gate_graph g) l ≡ ands_read g (gate_of g l)
@@ -57,9 +57,9 @@ has_last (x ∷ xs) k = or_true (eqb x k) (has (xs ++ k ∷ []) k) (has_last xs 
 has_front : (xs ys : List ℕ) (k : ℕ) → has xs k ≡ true → has (xs ++ ys) k ≡ true
 has_front [] ys k h = absurd (false≢true h)
 has_front (x ∷ xs) ys k h = elim (bool_cases (eqb x k)) [
-      | inl t ↦ ap (λ (b : Bool). b || has (xs ++ ys) k) t
-      | inr f ↦ or_true (eqb x k) (has (xs ++ ys) k) (has_front xs ys k (sym (ap (λ (b : Bool). b || has xs k) f) ∙ h))
-    ]
+  | inl t ↦ ap (λ (b : Bool). b || has (xs ++ ys) k) t
+  | inr f ↦ or_true (eqb x k) (has (xs ++ ys) k) (has_front xs ys k (sym (ap (λ (b : Bool). b || has xs k) f) ∙ h))
+]
 
 -- the AND node of a literal is among those that a gate with this operand reads
 with_and_has : (g : AigView) (gs : List ℕ) (e : Lit) → g.inputs < e.0 / 2 → has (with_and g gs e) (2 * (e.0 / 2)) ≡ true
@@ -74,12 +74,12 @@ with_and_has g gs e h =
 
 with_and_keeps : (g : AigView) (gs : List ℕ) (e : Lit) (k : ℕ) → has gs k ≡ true → has (with_and g gs e) k ≡ true
 with_and_keeps g gs e k h = elim (bool_cases (nat_lt g.inputs (e.0 / 2))) [
-      | inl t ↦ elim (bool_cases (has gs (2 * (e.0 / 2)))) [
-        | inl u ↦ ap (λ (xs : List ℕ). has xs k) (ap (λ (b : Bool). cond b (cond (has gs (2 * (e.0 / 2))) gs (gs ++ 2 * (e.0 / 2) ∷ [])) gs) t ∙ ap (λ (b : Bool). cond b gs (gs ++ 2 * (e.0 / 2) ∷ [])) u) ∙ h
-        | inr u ↦ ap (λ (xs : List ℕ). has xs k) (ap (λ (b : Bool). cond b (cond (has gs (2 * (e.0 / 2))) gs (gs ++ 2 * (e.0 / 2) ∷ [])) gs) t ∙ ap (λ (b : Bool). cond b gs (gs ++ 2 * (e.0 / 2) ∷ [])) u) ∙ has_front gs (2 * (e.0 / 2) ∷ []) k h
-      ]
-      | inr f ↦ ap (λ (xs : List ℕ). has xs k) (ap (λ (b : Bool). cond b (cond (has gs (2 * (e.0 / 2))) gs (gs ++ 2 * (e.0 / 2) ∷ [])) gs) f) ∙ h
-    ]
+  | inl t ↦ elim (bool_cases (has gs (2 * (e.0 / 2)))) [
+    | inl u ↦ ap (λ (xs : List ℕ). has xs k) (ap (λ (b : Bool). cond b (cond (has gs (2 * (e.0 / 2))) gs (gs ++ 2 * (e.0 / 2) ∷ [])) gs) t ∙ ap (λ (b : Bool). cond b gs (gs ++ 2 * (e.0 / 2) ∷ [])) u) ∙ h
+    | inr u ↦ ap (λ (xs : List ℕ). has xs k) (ap (λ (b : Bool). cond b (cond (has gs (2 * (e.0 / 2))) gs (gs ++ 2 * (e.0 / 2) ∷ [])) gs) t ∙ ap (λ (b : Bool). cond b gs (gs ++ 2 * (e.0 / 2) ∷ [])) u) ∙ has_front gs (2 * (e.0 / 2) ∷ []) k h
+  ]
+  | inr f ↦ ap (λ (xs : List ℕ). has xs k) (ap (λ (b : Bool). cond b (cond (has gs (2 * (e.0 / 2))) gs (gs ++ 2 * (e.0 / 2) ∷ [])) gs) f) ∙ h
+]
 
 pub first_read : (g : AigView) (x y : Lit) → g.inputs < x.0 / 2 → has (ands_read g (gate.And x y)) (2 * (x.0 / 2)) ≡ true
 first_read g x y h = with_and_keeps g (with_and g [] x) y (2 * (x.0 / 2)) (with_and_has g [] x h)
@@ -101,13 +101,13 @@ sign_false false = refl
 -- a row that holds a literal's node holds its value
 pub lit_value : (g : AigView) (bits : List Bool) (cells : List ℕ) (m : List Bool) (e : Lit) → node_value g bits 0 ≡ false → (0 < e.0 / 2 → bit m (cell_of g cells e) ≡ node_value g bits (e.0 / 2)) → lit_bit g cells m e ≡ aval g bits e
 lit_value g bits cells m e none held = elim (eqb_tells (e.0 / 2) 0) [
-      | inl z ↦
-          ap (λ (b : Bool). cond b (eqb (e.0 % 2) 1) (cond (eqb (e.0 % 2) 1) (not (bit m (cell_of g cells e))) (bit m (cell_of g cells e)))) z.0
-          ∙ sym (ap (λ (b : Bool). cond (eqb (e.0 % 2) 1) (not b) b) (ap (node_value g bits) z.1 ∙ none) ∙ sign_false (eqb (e.0 % 2) 1))
-      | inr s ↦
-          ap (λ (b : Bool). cond b (eqb (e.0 % 2) 1) (cond (eqb (e.0 % 2) 1) (not (bit m (cell_of g cells e))) (bit m (cell_of g cells e)))) s.0
-          ∙ ap (λ (b : Bool). cond (eqb (e.0 % 2) 1) (not b) b) (held (omega (arith, s.1)))
-    ]
+  | inl z ↦
+      ap (λ (b : Bool). cond b (eqb (e.0 % 2) 1) (cond (eqb (e.0 % 2) 1) (not (bit m (cell_of g cells e))) (bit m (cell_of g cells e)))) z.0
+      ∙ sym (ap (λ (b : Bool). cond (eqb (e.0 % 2) 1) (not b) b) (ap (node_value g bits) z.1 ∙ none) ∙ sign_false (eqb (e.0 % 2) 1))
+  | inr s ↦
+      ap (λ (b : Bool). cond b (eqb (e.0 % 2) 1) (cond (eqb (e.0 % 2) 1) (not (bit m (cell_of g cells e))) (bit m (cell_of g cells e)))) s.0
+      ∙ ap (λ (b : Bool). cond (eqb (e.0 % 2) 1) (not b) b) (held (omega (arith, s.1)))
+]
 
 -- a plain literal's value is its node's
 pub plain_value : (g : AigView) (bits : List Bool) (l : ℕ) → l % 2 ≡ 0 → aval g bits (record { 0 = l }) ≡ node_value g bits (l / 2)

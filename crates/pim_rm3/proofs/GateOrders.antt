@@ -164,19 +164,19 @@ taken_map g p h = get_or-map (taken g) (gates g) p 0 None h
 -- each gate that is taken over is a child, and needed no longer
 pub over_sound : (g : AigView) → ((v : GraphView) (readers : List ℕ) (x : ℕ) → read_by v readers x ≡ nat_lt 0 (reads v readers x)) → All (λ l. l < 2 * nodes g) (gates g) → IsOver (gate_graph g) (gates g) (map (taken g) (gates g))
 over_sound g law all = record {
-      child = λ p c h e.
-        taken_child g (get_or (gates g) p 0) c (all p 0 h) (taken_over g (get_or (gates g) p 0) c (sym (taken_map g p h) ∙ e));
-      last = λ p c h e.
-        let v = gate_graph g in
-        let xs = gates g in
-        let l = get_or xs p 0 in
-        let over = taken_over g l c (sym (taken_map g p h) ∙ e) in
-        let s = taken_single g l c over in
-        let some = lt_some (occurrences (kids_of v l) c) (sym (has-occurrences (kids_of v l) c) ∙ taken_child g l c (all p 0 h) over) in
-        let cut : reads v (drop p xs) c ≡ occurrences (kids_of v l) c + reads v (drop (p + 1) xs) c = ap (λ (ys : List ℕ). reads v ys c) (drop_more xs p 0 h) in
-        let less = reads_drop v xs p c in
-        let once = s.once in
-        let none : reads v (drop (p + 1) xs) c ≡ 0 = omega arith in
-        let unread : read_by v (drop (p + 1) xs) c ≡ false = law v (drop (p + 1) xs) c ∙ lt_none (reads v (drop (p + 1) xs) c) none in
-        ap (λ (b : Bool). b || has v.roots c) unread ∙ s.no_root;
-    }
+  child = λ p c h e.
+      taken_child g (get_or (gates g) p 0) c (all p 0 h) (taken_over g (get_or (gates g) p 0) c (sym (taken_map g p h) ∙ e));
+  last = λ p c h e.
+      let v = gate_graph g in
+      let xs = gates g in
+      let l = get_or xs p 0 in
+      let over = taken_over g l c (sym (taken_map g p h) ∙ e) in
+      let s = taken_single g l c over in
+      let some = lt_some (occurrences (kids_of v l) c) (sym (has-occurrences (kids_of v l) c) ∙ taken_child g l c (all p 0 h) over) in
+      let cut : reads v (drop p xs) c ≡ occurrences (kids_of v l) c + reads v (drop (p + 1) xs) c = ap (λ (ys : List ℕ). reads v ys c) (drop_more xs p 0 h) in
+      let less = reads_drop v xs p c in
+      let once = s.once in
+      let none : reads v (drop (p + 1) xs) c ≡ 0 = omega arith in
+      let unread : read_by v (drop (p + 1) xs) c ≡ false = law v (drop (p + 1) xs) c ∙ lt_none (reads v (drop (p + 1) xs) c) none in
+      ap (λ (b : Bool). b || has v.roots c) unread ∙ s.no_root;
+}

@@ -1,4 +1,7 @@
 pub mod AndLists
+pub mod Counts
+pub mod Finished
+pub mod Fitting
 pub mod GateKinds
 pub mod GateOrders
 pub mod Rows

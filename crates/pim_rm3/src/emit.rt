@@ -54,7 +54,11 @@ fn settled(aig: &Aig, cells: &[u32], z: u32, literal: Lit) -> Lit
     ensures { result ≡ settled aig.now cells.now z literal }
 {
     if 0 < literal.0 / 2 && cell_of(aig, cells, literal) == z {
-        if literal.0 % 2 == 1 { Lit::FALSE } else { Lit::TRUE }
+        if literal.0 % 2 == 1 {
+            Lit::FALSE
+        } else {
+            Lit::TRUE
+        }
     } else {
         literal
     }
@@ -110,7 +114,13 @@ fn set_to(bit: bool, z: u32) -> Instr
 }
 
 /// Adds the two instructions that make a cell a literal.
-fn add_load(draft: &mut ProgramDraft, aig: &Aig, cells: &[u32], z: u32, literal: Lit) -> Result<(), NoMemory>
+fn add_load(
+    draft: &mut ProgramDraft,
+    aig: &Aig,
+    cells: &[u32],
+    z: u32,
+    literal: Lit,
+) -> Result<(), NoMemory>
     requires cells { length cells.now ≡ 2 * nodes aig.now }
     requires there { literal.0 < 2 * nodes aig.now }
     ensures { OnOk result (draft.new ≡ record draft.old { instrs = draft.old.instrs ++ load aig.now cells.now z literal }) }
@@ -146,7 +156,8 @@ fn add_and(
     requires x_there { x.0 < 2 * nodes aig.now }
     requires y_there { y.0 < 2 * nodes aig.now }
     ensures { OnOk result (draft.new ≡ record draft.old {
-      instrs = draft.old.instrs ++ gate_instrs aig.now cells.now z over 0 (gate_is.And x y) }) }
+      instrs = draft.old.instrs ++ gate_instrs aig.now cells.now z over 0 (gate_is.And x y);
+    }) }
 {
     match over {
         Some(taken) if taken == x.0 => draft.add(narrow(aig, cells, z, y)),
@@ -169,7 +180,8 @@ fn add_gate(
     requires cells { length cells.now ≡ 2 * nodes aig.now }
     requires there { literal < 2 * nodes aig.now }
     ensures { OnOk result (draft.new ≡ record draft.old {
-      instrs = draft.old.instrs ++ gate_instrs aig.now cells.now (slice_index cells.now literal) over literal (gate_of aig.now literal) }) }
+      instrs = draft.old.instrs ++ gate_instrs aig.now cells.now (slice_index cells.now literal) over literal (gate_of aig.now literal);
+    }) }
 {
     let z = cells[literal as usize];
     match gate_of(aig, literal) {
@@ -236,7 +248,8 @@ pub(crate) fn add_outputs(
     requires cells { length cells.now ≡ 2 * nodes aig.now }
     requires same { length aig.now.outputs ≡ length labels.now }
     ensures { OnOk result (draft.new ≡ record draft.old {
-      outputs = draft.old.outputs ++ output_ports aig.now cells.now aig.now.outputs labels.now }) }
+      outputs = draft.old.outputs ++ output_ports aig.now cells.now aig.now.outputs labels.now;
+    }) }
 {
     let outputs = aig.outputs();
     for (k, output) in outputs.iter().enumerate() {

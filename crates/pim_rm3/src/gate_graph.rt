@@ -58,7 +58,9 @@ fn put_ands_read(gates: &mut Vec<u32>, aig: &Aig, gate: Gate) -> Result<(), NoMe
 /// The graph of all literals as gates, without roots. Linear.
 fn rootless(alloc: Global, aig: &Aig) -> Result<Graph, NoMemory>
     ensures { IfOk result (λ graph. graph ≡ record {
-      kids = map (λ l. ands_read aig.now (gate_of aig.now l)) (range_with_len 0 (2 * nodes aig.now)); roots = [] }) }
+      kids = map (λ l. ands_read aig.now (gate_of aig.now l)) (range_with_len 0 (2 * nodes aig.now));
+      roots = [];
+    }) }
 {
     let mut graph = Graph::new(alloc);
     let mut children = Vec::new(alloc);

@@ -54,6 +54,7 @@ pub(crate) fn all_taken(
     requires order { order.now ≡ gates aig.now }
     ensures list { IfOk result (λ over. over.items ≡ map (taken aig.now) (gates aig.now)) }
     ensures there { OnOk result (All (λ l. l < 2 * nodes aig.now) (gates aig.now)) }
+    ensures count { OnOk result (length (gates aig.now) ≤ 2 * nodes aig.now) }
     ensures few { OnOk result (length (gates aig.now) < 2 ^ 28) }
     ensures sound { OnOk result (IsOver (gate_graph aig.now) (gates aig.now) (map (taken aig.now) (gates aig.now))) }
 {

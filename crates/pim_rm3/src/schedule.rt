@@ -81,7 +81,7 @@ fn planned(alloc: Global, aig: &Aig) -> Result<Plan, NoMemory>
     ensures sound { OnOk result (IsOver (gate_graph aig.now) (gates aig.now) (map (taken aig.now) (gates aig.now))) }
     ensures small { OnOk result (IsAig aig.now) }
     ensures there { OnOk result (All (λ l. l < 2 * nodes aig.now) (gates aig.now)) }
-    ensures few { OnOk result (length (gates aig.now) < 2 ^ 28) }
+    ensures few { OnOk result (length (gates aig.now) ≤ 2 * nodes aig.now) }
     ensures over { IfOk result (λ plan. plan.over.items ≡ map (taken aig.now) (gates aig.now)) }
     ensures allotment { IfOk result (λ plan. IsAllotment (gate_graph aig.now) (gates aig.now) (map (taken aig.now) (gates aig.now)) aig.now.inputs plan.allotment) }
     ensures needed { IfOk result (λ plan. plan.needed ≡ needed_of aig.now) }

@@ -20,3 +20,6 @@ returns-clause-few c =
     let kids = kids_count c.args.aig.now in
     let same = ap (λ (v : GraphView). length v.kids) c.requires.graph in
     omega (arith, c.new.ensures.sound.gates_fit)
+
+pub returns-clause-count : goal.returns-clause-count
+returns-clause-count c = order_few c.args.aig.now c.args.graph.now c.requires.graph c.has_order.ensures.few
