@@ -1,5 +1,5 @@
 -- Lists of the AND nodes that gates read.
-use Rattle.std.proofs.Common.{◌≡◌, ℕ, ◌+◌, ◌*◌, ◌/◌, ◌<◌, ◌≤◌, Bool, true, false, cond, eqb, nat_lt, ◌||◌, List, [], ◌∷◌, ◌++◌, length, All, refl, sym, ◌∙◌, ap, subst, arith, inl, inr}
+use Rattle.std.proofs.Common.{◌≡◌, ℕ, ◌*◌, ◌/◌, ◌<◌, Bool, true, false, cond, eqb, nat_lt, ◌||◌, List, [], ◌∷◌, ◌++◌, All, refl, sym, ◌∙◌, ap, arith}
 use Rattle.std.specs.List.{list_any}
 use Rattle.std.proofs.lemmas.Bool.Decides.{nat_tests}
 use Rattle.std.proofs.lemmas.List.Elements.{All-push}
@@ -10,7 +10,6 @@ use Rattle.pim_rm3.specs.Gates.{ands_read, with_and}
 use Rattle.pim_rm3.specs.inner.Reading.{ReadsBelow}
 use Rattle.pim_rm3.specs.declared.gate.Gate.{Gate}
 use Rattle.pim_rm3.specs.declared.gate.Gate.TheVariants as gate
-use Rattle.pim_rm3.proofs.Rows.{bool_cases}
 
 list_any-has : (gs : List ℕ) (x : ℕ) → list_any (λ y. eqb y x) gs ≡ has gs x
 list_any-has [] x = refl

@@ -1,9 +1,9 @@
 -- A finished program of the schedule: it is sound, and realizes the graph.
-use Rattle.std.proofs.Common.{◌≡◌, ◌≢◌, ◌⊎◌, ℕ, zero, suc, ◌+◌, ◌*◌, ◌<◌, ◌≤◌, Bool, true, List, [], ◌∷◌, length, get_or, take, map, All, AllPairs, refl, sym, ◌∙◌, ap, subst, arith, inl, inr}
+use Rattle.std.proofs.Common.{◌≡◌, ◌≢◌, ℕ, suc, ◌+◌, ◌<◌, ◌≤◌, true, List, [], ◌∷◌, length, get_or, take, map, All, AllPairs, refl, sym, ◌∙◌, ap, subst, arith, inl, inr}
 use Rattle.std.specs.List.{range_with_len}
 use Rattle.std.proofs.lemmas.List.Elements.{All-cons}
 use Rattle.std.proofs.lemmas.List.FromFn.{length-range_with_len, get_or-range_with_len}
-use Rattle.pim_aig.specs.Graph.{AigView, nodes}
+use Rattle.pim_aig.specs.Graph.{AigView}
 use Rattle.pim_aig.specs.Values.{aval}
 use Rattle.pim_aig.specs.declared.literal.Lit.{Lit}
 use Rattle.pim_graph.specs.Allotments.{AllotmentView}
@@ -11,11 +11,10 @@ use Rattle.pim_graph.specs.Graphs.{has}
 use Rattle.pim_graph.specs.Orders.{IsReached}
 use Rattle.pim_isa.specs.Laws.{ExecLaws}
 use Rattle.pim_isa.specs.PortLists.{input_ports}
-use Rattle.pim_isa.specs.Programs.{PortsView, ProgramView}
+use Rattle.pim_isa.specs.Programs.{PortsView}
 use Rattle.pim_isa.specs.Realizes.{Realizes}
 use Rattle.pim_isa.specs.Sound.{IsSound, cells_of}
 use Rattle.pim_isa.specs.Steps.{exec}
-use Rattle.pim_rm3.specs.Costs.{rm3_cost}
 use Rattle.pim_rm3.specs.Gates.{gate_graph, gates}
 use Rattle.pim_rm3.specs.Schedules.{output_cell, output_ports, program_of, schedule}
 use Rattle.pim_rm3.proofs.Counts.{ports_hold}

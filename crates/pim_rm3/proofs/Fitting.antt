@@ -1,23 +1,22 @@
 -- The instructions of a schedule are those of a program: they write the cells after the inputs, and read no cell that they write.
-use Rattle.std.proofs.Common.{◌≡◌, ◌≢◌, ◌⊎◌, ℕ, zero, suc, ◌+◌, ◌-◌, ◌*◌, ◌/◌, ◌%◌, ◌<◌, ◌≤◌, Bool, true, false, cond, eqb, nat_lt, ◌&&◌, ◌||◌, List, [], ◌∷◌, ◌++◌, length, get_or, take, map, flat_map, slice_get, All, Option, Some, None, refl, sym, ◌∙◌, ap, subst, arith, inl, inr}
+use Rattle.std.proofs.Common.{◌≡◌, ◌≢◌, ◌⊎◌, ℕ, zero, suc, ◌-◌, ◌*◌, ◌/◌, ◌%◌, ◌<◌, ◌≤◌, Bool, true, false, cond, eqb, nat_lt, ◌&&◌, ◌||◌, List, [], ◌∷◌, ◌++◌, length, get_or, take, flat_map, slice_get, All, Option, Some, None, refl, sym, ◌∙◌, ap, subst, arith, inl, inr}
 use Rattle.std.specs.List.{list_any}
 use Rattle.std.proofs.lemmas.Bool.{false≢true}
 use Rattle.std.proofs.lemmas.Bool.Decides.{nat_tests, eqb_tells, leb_tells}
 use Rattle.std.proofs.lemmas.List.Elements.{All-append, All-cons}
 use Rattle.std.proofs.lemmas.Option.{slice_get_cases}
-use Rattle.pim_aig.specs.Graph.{AigView, nodes}
+use Rattle.pim_aig.specs.Graph.{AigView}
 use Rattle.pim_aig.specs.declared.literal.Lit.{Lit}
-use Rattle.pim_graph.specs.Allotments.{AllotmentView, taken_at}
+use Rattle.pim_graph.specs.Allotments.{AllotmentView}
 use Rattle.pim_graph.specs.Graphs.{has, kids_of}
 use Rattle.pim_isa.specs.Sound.{IsValid}
-use Rattle.pim_isa.specs.Touches.{names, operand_cells, writes}
-use Rattle.pim_isa.specs.Validity.{reads_target}
+use Rattle.pim_isa.specs.Touches.{operand_cells, writes}
 use Rattle.pim_isa.specs.declared.target.Target.TheVariants.{Plim}
 use Rattle.pim_isa.specs.declared.instr.Operand.{Operand}
 use Rattle.pim_isa.specs.declared.instr.Operand.TheVariants as operand
 use Rattle.pim_isa.specs.declared.instr.Instr.{Instr}
 use Rattle.pim_isa.specs.declared.instr.Instr.TheVariants.{Init, Nor, Rm3}
-use Rattle.pim_rm3.specs.Gates.{ands_read, gate_graph, gate_of, gates, taken, taken_of}
+use Rattle.pim_rm3.specs.Gates.{ands_read, gate_graph, gates, taken, taken_of}
 use Rattle.pim_rm3.specs.Schedules.{cell_of, gate_instrs, instrs_at, is_inverted, load, narrow, narrow_by, operand_of, schedule, set_to, settled}
 use Rattle.pim_rm3.specs.declared.gate.Gate.{Gate}
 use Rattle.pim_rm3.specs.declared.gate.Gate.TheVariants as gate

@@ -1,6 +1,6 @@
 -- The row after the gates up to a place: each gate that is needed there has its value in its cell.
-use Rattle.std.proofs.Common.{◌≡◌, ◌≢◌, ◌⊎◌, ℕ, zero, suc, ◌+◌, ◌-◌, ◌*◌, ◌/◌, ◌%◌, ◌<◌, ◌≤◌, Bool, true, false, cond, eqb, nat_le, nat_lt, ◌&&◌, ◌||◌, not, List, [], ◌∷◌, ◌++◌, length, get_or, take, drop, fold, map, flat_map, All, Option, Some, None, refl, sym, ◌∙◌, ap, subst, arith, inl, inr}
-use Rattle.std.proofs.lemmas.Bool.{cases_eq, false≢true}
+use Rattle.std.proofs.Common.{◌≡◌, ◌≢◌, ◌⊎◌, ℕ, zero, suc, ◌+◌, ◌-◌, ◌*◌, ◌/◌, ◌%◌, ◌<◌, ◌≤◌, Bool, true, false, cond, eqb, nat_le, nat_lt, ◌&&◌, ◌||◌, List, [], ◌∷◌, ◌++◌, length, get_or, take, drop, fold, map, flat_map, All, Option, Some, None, refl, sym, ◌∙◌, ap, subst, arith, inl, inr}
+use Rattle.std.proofs.lemmas.Bool.{false≢true}
 use Rattle.std.proofs.lemmas.Bool.Decides.{nat_tests, eqb_tells, leb_tells}
 use Rattle.std.proofs.lemmas.List.{drop_more, take_more, flat_map_more, get_or-take}
 use Rattle.std.proofs.lemmas.List.FromFn.{length-map-range_with_len}
@@ -11,15 +11,15 @@ use Rattle.pim_aig.specs.Laws.{ValueLaws}
 use Rattle.pim_aig.specs.Values.{aval}
 use Rattle.pim_aig.specs.declared.literal.Lit.{Lit}
 use Rattle.pim_graph.specs.Allotments.{AllotmentView, IsAllotment, IsOver, taken_at}
-use Rattle.pim_graph.specs.Graphs.{GraphView, has, kids_of}
+use Rattle.pim_graph.specs.Graphs.{has, kids_of}
 use Rattle.pim_graph.specs.Orders.{IsReached}
 use Rattle.pim_graph.specs.Orders.IsReached.{as_root, as_child}
 use Rattle.pim_graph.specs.Peaks.{IsPlaced, needed, read_by}
 use Rattle.pim_isa.specs.Laws.{ExecLaws}
-use Rattle.pim_isa.specs.Steps.{bit, exec, step}
+use Rattle.pim_isa.specs.Steps.{bit, exec}
 use Rattle.pim_isa.specs.declared.instr.Instr.{Instr}
 use Rattle.pim_rm3.specs.Gates.{ands_read, gate_graph, gate_of, gates, is_input, taken, taken_of, with_and, with_root}
-use Rattle.pim_rm3.specs.Schedules.{cell_of, gate_instrs, instrs_at, load, narrow, output_cell, schedule, set_to}
+use Rattle.pim_rm3.specs.Schedules.{cell_of, gate_instrs, instrs_at, load, narrow, output_cell, schedule}
 use Rattle.pim_rm3.specs.declared.gate.Gate.{Gate}
 use Rattle.pim_rm3.specs.declared.gate.Gate.TheVariants as gate
 use Rattle.pim_rm3.proofs.GateKinds.{Kind, kind_of, kids_at, and_of, first_read, second_read, inverse_read, node_value, lit_value, plain_value, zero_value, input_value, meet_value, constant_value}

@@ -1,10 +1,9 @@
-use Rattle.std.proofs.Common.{◌≡◌, ℕ, ◌+◌, ◌*◌, ◌<◌, ◌≤◌, Option, None, List, length, get_or, drop, map, sum_by, sym, ◌∙◌, ap, subst, arith}
+use Rattle.std.proofs.Common.{◌≡◌, ℕ, Option, None, List, length, get_or, sum_by, ◌∙◌, ap, arith}
 use Rattle.std.proofs.lemmas.List.{get_or-map, length-map}
 use Rattle.std.proofs.lemmas.List.Sums.{sum_by-drop_more}
 use Rattle.std.proofs.Math.ListN.{drop_of_length-le}
 use Rattle.pim_rm3.specs.Costs.{cost_of}
-use Rattle.pim_rm3.specs.Gates.{gate_of, gates, taken}
-use Rattle.pim_rm3.specs.declared.gate.Gate.{Gate}
+use Rattle.pim_rm3.specs.Gates.{gate_of, taken}
 use Rattle.pim_rm3.proofs.cost.total.Goals as goal
 
 pub bounds-over-place : goal.bounds-over-place

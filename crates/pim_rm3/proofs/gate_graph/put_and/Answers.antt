@@ -1,4 +1,4 @@
-use Rattle.std.proofs.Common.{◌≡◌, ◌*◌, ◌/◌, ◌<◌, eqb, List, ℕ, sym, ◌∙◌, ap, arith}
+use Rattle.std.proofs.Common.{◌*◌, ◌/◌, ◌<◌, eqb, List, ℕ, sym, ◌∙◌, ap, arith}
 use Rattle.std.specs.List.{list_any}
 use Rattle.pim_rm3.proofs.AndLists.{with_and_new, with_and_there}
 use Rattle.pim_rm3.proofs.gate_graph.put_and.Goals as goal

@@ -1,12 +1,10 @@
-use Rattle.std.proofs.Common.{◌≡◌, ℕ, ◌+◌, ◌*◌, ◌≤◌, Bool, List, length, map, sym, ◌∙◌, ap, subst, arith}
+use Rattle.std.proofs.Common.{◌≡◌, length, map, sym, ◌∙◌, ap, subst, arith}
 use Rattle.std.proofs.lemmas.Bool.{false≢true}
-use Rattle.pim_aig.specs.Graph.{AigView, nodes}
 use Rattle.pim_aig.specs.Values.{aval}
 use Rattle.pim_isa.specs.PortLists.{labels_of}
 use Rattle.pim_isa.specs.Programs.{ProgramView}
 use Rattle.pim_isa.specs.Realizes.{Realizes}
 use Rattle.pim_isa.specs.Sound.{IsSound}
-use Rattle.pim_rm3.specs.Costs.{rm3_cost}
 use Rattle.pim_rm3.specs.Schedules.{program_of}
 use Rattle.pim_rm3.proofs.Counts.{schedule_length, cost_within, labels_kept, ports_count}
 use Rattle.pim_rm3.proofs.Finished.{inputs_count, realizes, sound}
