@@ -1,0 +1,8 @@
+pub mod AndLists
+pub mod Counts
+pub mod Finished
+pub mod Fitting
+pub mod GateKinds
+pub mod GateOrders
+pub mod Rows
+pub mod Walks

@@ -1,0 +1,23 @@
+-- How many cycles the gates of a graph take, and how many cells.
+use Rattle.std.specs.Prelude.{ℕ, ◌+◌, Option, Some, None, sum_by}
+use Rattle.pim_aig.specs.Graph.{AigView}
+use Rattle.pim_graph.specs.Peaks.{peak}
+use Rattle.pim_rm3.specs.declared.gate.Gate.{Gate}
+use Rattle.pim_rm3.specs.declared.gate.Gate.TheVariants as gate
+use Rattle.pim_rm3.specs.Gates.{gate_graph, gate_of, gates, taken}
+
+-- a constant takes one cycle, a complement two, and an AND one where it takes a cell over, else three
+abbrev pub cost_of : Option ℕ → Gate → ℕ
+cost_of over (gate.Constant b) = 1
+cost_of over gate.Input = 0
+cost_of over (gate.Not m) = 2
+cost_of None (gate.And x y) = 3
+cost_of (Some c) (gate.And x y) = 1
+
+-- the cycles of all gates that the outputs reach
+abbrev pub rm3_cost : AigView → ℕ
+rm3_cost g = sum_by (λ l. cost_of (taken g l) (gate_of g l)) (gates g)
+
+-- the cells of the inputs, and as many as the order of the gates holds values at once
+abbrev pub needed_of : AigView → ℕ
+needed_of g = g.inputs + peak (gate_graph g) (gates g)

@@ -1,0 +1,122 @@
+ghost use Rattle.std.specs.Prelude.{◌≡◌, ◌*◌, ◌^◌, ◌<◌, ◌≤◌, ℕ, true, All, Bool, List, length, map, IfOk, IfErr, OnOk};
+ghost use Rattle.pim_aig.specs.Graph.{IsAig, nodes};
+ghost use Rattle.pim_aig.specs.Values.{aval};
+ghost use Rattle.pim_graph.specs.Allotments.{IsAllotment, IsOver};
+ghost use Rattle.pim_graph.specs.Graphs.{has};
+ghost use Rattle.pim_graph.specs.Orders.{IsReached};
+ghost use Rattle.pim_graph.specs.Peaks.{IsPlaced};
+ghost use Rattle.pim_isa.specs.PortLists.{labels_of};
+ghost use Rattle.pim_isa.specs.Realizes.{Realizes};
+ghost use Rattle.pim_isa.specs.declared.target.Target.TheVariants as target_is;
+ghost use Rattle.pim_rm3.specs.Costs.{needed_of, rm3_cost};
+ghost use Rattle.pim_rm3.specs.Gates.{gate_graph, gates, taken};
+ghost use Rattle.pim_rm3.specs.Refusals.{IsRefusalFor};
+ghost use Rattle.pim_rm3.specs.Schedules.{program_of};
+
+use crate::Refusal;
+use crate::emit::{add_gates, add_inputs, add_outputs};
+use crate::gate_graph::gate_graph;
+use crate::over::all_taken;
+use pim_aig::Aig;
+use pim_graph::{Allotment, allot, order, peak};
+use pim_io::NoMemory;
+use pim_isa::{MAX_CELLS, Ports, Program, ProgramDraft, Target};
+use std::alloc::Global;
+
+/// What is settled of a schedule before its instructions are written.
+#[derive(Drop)]
+struct Plan {
+    order: Vec<u32>,
+    over: Vec<Option<u32>>,
+    allotment: Allotment,
+    needed: u32,
+}
+
+/// Schedules a graph in at most `budget` cells. Input k stands in cell k, and no instruction writes it.
+///
+/// `TooFewCells` comes only where the budget is below `needed`, which is the inputs and as many cells as the order of the
+/// gates holds values at once. Near linear in the graph.
+pub fn base(alloc: Global, aig: &Aig, ports: &Ports, budget: u32) -> Result<Program, Refusal>
+    requires inputs { length ports.now.inputs ≡ aig.now.inputs }
+    requires outputs { length ports.now.outputs ≡ length aig.now.outputs }
+    requires within { budget ≤ MAX_CELLS }
+
+    // From every earlier content of the other cells the outputs end with the graph's values, and no input is written.
+    ensures realizes { IfOk result (λ program. Realizes program ports.now.inputs (λ bits. map (aval aig.now bits) aig.now.outputs)) }
+    ensures target { IfOk result (λ program. program.target ≡ target_is.Plim) }
+    ensures labels { IfOk result (λ program. labels_of program.outputs ≡ ports.now.outputs) }
+    ensures cells { IfOk result (λ program. program.cells ≤ budget) }
+    ensures needed { IfOk result (λ program. program.cells ≤ needed_of aig.now) }
+    ensures cycles { IfOk result (λ program. length program.instrs ≡ rm3_cost aig.now) }
+    ensures refused { IfErr result (IsRefusalFor (needed_of aig.now) budget) }
+{
+    aig.has_values();
+    let plan = match planned(alloc, aig) {
+        Ok(plan) => plan,
+        Err(NoMemory) => return Err(Refusal::NoMemory),
+    };
+    if budget < plan.allotment.width() {
+        return Err(Refusal::TooFewCells {
+            needed: plan.needed,
+        });
+    }
+    match drafted(alloc, aig, ports, &plan) {
+        Ok(draft) => match Program::new(draft) {
+            Ok(program) => {
+                program.laws();
+                Ok(program)
+            }
+            Err(_) => unreachable!(),
+        },
+        Err(NoMemory) => Err(Refusal::NoMemory),
+    }
+}
+
+/// The order of a graph's gates, what they take over, and their cells.
+fn planned(alloc: Global, aig: &Aig) -> Result<Plan, NoMemory>
+    ensures order { IfOk result (λ plan. plan.order.items ≡ gates aig.now) }
+    ensures placed { OnOk result (IsPlaced (gate_graph aig.now) (gates aig.now)) }
+    ensures reached { OnOk result (All (IsReached (gate_graph aig.now)) (gates aig.now)) }
+    ensures complete { OnOk result ((gate : ℕ) → IsReached (gate_graph aig.now) gate → has (gates aig.now) gate ≡ true) }
+    ensures sound { OnOk result (IsOver (gate_graph aig.now) (gates aig.now) (map (taken aig.now) (gates aig.now))) }
+    ensures small { OnOk result (IsAig aig.now) }
+    ensures there { OnOk result (All (λ l. l < 2 * nodes aig.now) (gates aig.now)) }
+    ensures few { OnOk result (length (gates aig.now) ≤ 2 * nodes aig.now) }
+    ensures over { IfOk result (λ plan. plan.over.items ≡ map (taken aig.now) (gates aig.now)) }
+    ensures allotment { IfOk result (λ plan. IsAllotment (gate_graph aig.now) (gates aig.now) (map (taken aig.now) (gates aig.now)) aig.now.inputs plan.allotment) }
+    ensures needed { IfOk result (λ plan. plan.needed ≡ needed_of aig.now) }
+    ensures width { IfOk result (λ plan. plan.allotment.width ≤ needed_of aig.now) }
+{
+    let graph = gate_graph(alloc, aig)?;
+    graph.has_order();
+    let order = order(alloc, &graph)?;
+    let over = all_taken(alloc, aig, &graph, &order)?;
+    let allotment = allot(alloc, &graph, &order, aig.inputs(), &over)?;
+    let needed = aig.inputs() + peak(alloc, &graph, &order)?;
+    Ok(Plan {
+        order,
+        over,
+        allotment,
+        needed,
+    })
+}
+
+/// The draft of a planned schedule.
+fn drafted(alloc: Global, aig: &Aig, ports: &Ports, plan: &Plan) -> Result<ProgramDraft, NoMemory>
+    requires outputs { length ports.now.outputs ≡ length aig.now.outputs }
+    requires inputs { length ports.now.inputs ≡ aig.now.inputs }
+    requires few { length ports.now.inputs < 2 ^ 32 }
+    requires order { plan.now.order.items ≡ gates aig.now }
+    requires there { All (λ l. l < 2 * nodes aig.now) plan.now.order.items }
+    requires over { plan.now.over.items ≡ map (taken aig.now) (gates aig.now) }
+    requires len { length plan.now.allotment.cells ≡ length (gate_graph aig.now).kids }
+    requires within { plan.now.allotment.width ≤ MAX_CELLS }
+    ensures { IfOk result (λ draft. draft ≡ program_of aig.now ports.now plan.now.allotment) }
+{
+    let cells = plan.allotment.cells();
+    let mut draft = ProgramDraft::new(alloc, Target::Plim, plan.allotment.width());
+    add_inputs(&mut draft, ports.inputs())?;
+    add_outputs(&mut draft, aig, cells, ports.outputs())?;
+    add_gates(&mut draft, aig, cells, &plan.over, &plan.order)?;
+    Ok(draft)
+}
