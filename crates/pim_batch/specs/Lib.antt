@@ -1,2 +1,3 @@
+pub mod Runners
 pub mod Tables
 pub mod Batches
