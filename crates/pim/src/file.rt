@@ -58,3 +58,49 @@ impl<'a, R: Files> Source for FileSource<'a, R> {
         }
     }
 }
+
+#[cfg(test)]
+mod tests {
+    use super::*;
+    use std::fs;
+    use std::test::Fail;
+
+    #[test]
+    fn no_path_is_an_empty_file(rt: HostRuntime) -> Result<(), Fail> {
+        let mut source = FileSource::new(&rt, None);
+        let mut buf = [7; 4];
+        assert_eq!(rt; source.read(&mut buf)?, 0);
+        assert_eq!(rt; source.read(&mut buf)?, 0);
+        assert_eq!(rt; source.faults, 0);
+        assert_eq!(rt; buf, [7; 4]);
+        Ok(())
+    }
+
+    #[test]
+    fn an_absent_path_and_a_folder_are_faults(rt: HostRuntime) {
+        for path in ["pim_no_file_of_this_name", "."] {
+            let mut source = FileSource::new(&rt, Some(path));
+            let mut buf = [7; 4];
+            assert_eq!(rt; source.faults, 0, "{path} before a read");
+            assert!(rt; source.read(&mut buf).is_err(), "the first read of {path}");
+            assert!(rt; source.read(&mut buf).is_err(), "the second read of {path}");
+            assert_eq!(rt; source.faults, 2, "{path} after two reads");
+        }
+    }
+
+    #[test]
+    fn a_file_is_read_on_from_read_to_read(rt: HostRuntime) -> Result<(), Fail> {
+        let path = "pim_file_source_test";
+        fs::write(&rt, path, b"abcdef".as_slice())?;
+        let mut source = FileSource::new(&rt, Some(path));
+        let mut buf = [0; 4];
+        assert_eq!(rt; source.read(&mut buf)?, 4);
+        assert_eq!(rt; buf, *b"abcd");
+        assert_eq!(rt; source.read(&mut buf)?, 2);
+        assert_eq!(rt; buf, *b"efcd");
+        assert_eq!(rt; source.read(&mut buf)?, 0);
+        assert_eq!(rt; source.faults, 0);
+        fs::remove_file(&rt, path)?;
+        Ok(())
+    }
+}

@@ -6,9 +6,9 @@ mod file;
 use crate::file::FileSource;
 use pim_io::{NoMemory, ReadSource, WriteSink};
 use pim_top::{no_memory, pim, program_word};
-use std::env;
 use std::io::ErrorKind;
 use std::process::ExitCode;
+use std::{env, fs};
 
 /// The words after the program's name. Words that can't be read, as those that are no UTF-8, count as none.
 fn words(rt: &HostRuntime) -> Result<Vec<String>, NoMemory> {
@@ -27,6 +27,9 @@ fn words(rt: &HostRuntime) -> Result<Vec<String>, NoMemory> {
 }
 
 fn main(rt: HostRuntime) -> ExitCode {
+    // What is opened takes the lowest number that is free. Where a standard stream is closed, this folder takes its number, so
+    // that FILE does not: reading or writing there is a fault, as it has to be.
+    let _held = fs::open(&rt, "/");
     let mut notes = WriteSink::new(rt.stderr());
     let Ok(words) = words(&rt) else {
         return ExitCode::from(no_memory(&mut notes).code());

@@ -1,5 +1,5 @@
 ghost use Rattle.std.specs.Prelude.{◌≡◌};
-ghost use Rattle.pim_io.specs.Lines.{line_of};
+ghost use Rattle.pim_io.specs.Lines.{line_view};
 ghost use Rattle.pim_aiger.specs.TextLines.{text_of};
 ghost use Rattle.pim_aiger.specs.SymbolTable.{is_comment};
 
@@ -7,7 +7,7 @@ use pim_io::{Line, without_return};
 
 /// The text of a line: a carriage return right before the newline is no part of it.
 pub(crate) fn text_of<'a>(line: &Line<'a>) -> &'a [u8]
-    ensures { result.now ≡ text_of (line_of line.now) }
+    ensures { result.now ≡ text_of (line_view line.now) }
 {
     if line.ended {
         without_return(line.text)

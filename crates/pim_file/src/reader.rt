@@ -1,6 +1,6 @@
 ghost use Rattle.std.specs.Prelude.{◌≡◌, Some, None, if◌then◌else◌, IfOk, OnOk};
 ghost use Rattle.std.specs.Bool.{OnFalse};
-ghost use Rattle.pim_io.specs.Lines.{line_of};
+ghost use Rattle.pim_io.specs.Lines.{line_view};
 ghost use Rattle.pim_io.specs.Names.{IsLabel};
 ghost use Rattle.pim_file.specs.LineForms.{port_view};
 ghost use Rattle.pim_file.specs.Steps.{Gives};
@@ -52,7 +52,7 @@ impl Reader {
 
     /// The next line.
     pub(crate) fn line(&mut self, line: Line) -> Result<(), FileFault>
-        ensures { Gives (λ _. self.new) result (line_read within_limit self.old (line_of line.entry)) }
+        ensures { Gives (λ _. self.new) result (line_read within_limit self.old (line_view line.entry)) }
     {
         if !line.ended && self.section != Section::Ended {
             return Err(FileFault::Truncated);

@@ -1,8 +1,10 @@
 -- Small graphs, with their usages, orders and peaks by computation.
-use Rattle.std.specs.Prelude.{◌≡◌, ℕ, List, [], ◌∷◌, refl}
+use Rattle.std.specs.Prelude.{◌≡◌, ℕ, true, false, List, [], ◌∷◌, refl, map}
 use Rattle.pim_graph.specs.Graphs.{GraphView}
-use Rattle.pim_graph.specs.Orders.{order}
-use Rattle.pim_graph.specs.Peaks.{peak}
+use Rattle.pim_graph.specs.Orders.{order, IsReached}
+use Rattle.pim_graph.specs.Orders.IsReached.{as_root, as_child}
+use Rattle.pim_graph.specs.Peaks.{needed, peak}
+use Rattle.pim_graph.specs.Readers.{reads, still_needed}
 use Rattle.pim_graph.specs.Usages.{falling, usages}
 
 -- the leaves 0 and 1, gate 2 of both, and gate 3 of 1 and 2
@@ -74,3 +76,28 @@ greater_root_first = refl
 -- nothing is held where nothing is computed
 empty_peak : peak raised [] ≡ 0
 empty_peak = refl
+
+-- the root 3 reaches gate 0 by way of gate 2
+reached_leaf : IsReached (shared (3 ∷ [])) 0
+reached_leaf = as_child {reader = 2} (as_child {reader = 3} (as_root refl) refl) refl
+
+-- behind gate 1 the gates 2 and 3 read it; behind gate 2 only gate 3 does, and gate 0 is needed no longer
+needed_behind : needed (shared (3 ∷ [])) (2 ∷ 3 ∷ []) 1 ≡ true
+needed_behind = refl
+
+not_needed_behind : needed (shared (3 ∷ [])) (3 ∷ []) 0 ≡ false
+not_needed_behind = refl
+
+-- a root is needed behind all gates
+root_needed_behind : needed (shared (3 ∷ [])) [] 3 ≡ true
+root_needed_behind = refl
+
+-- the reads that are still to come, before the first gate and behind gate 2
+reads_of_all : map (reads (shared (3 ∷ [])) (0 ∷ 1 ∷ 2 ∷ 3 ∷ [])) (0 ∷ 1 ∷ 2 ∷ 3 ∷ []) ≡ 1 ∷ 2 ∷ 1 ∷ 0 ∷ []
+reads_of_all = refl
+
+reads_of_rest : map (reads (shared (3 ∷ [])) (3 ∷ [])) (0 ∷ 1 ∷ 2 ∷ 3 ∷ []) ≡ 0 ∷ 1 ∷ 1 ∷ 0 ∷ []
+reads_of_rest = refl
+
+still_needed_by_counts : map (still_needed (shared (3 ∷ [])) (0 ∷ 1 ∷ 1 ∷ 0 ∷ [])) (0 ∷ 1 ∷ 2 ∷ 3 ∷ []) ≡ false ∷ true ∷ true ∷ true ∷ []
+still_needed_by_counts = refl

@@ -33,7 +33,7 @@ has-push_cases (z ∷ xs) x y h =
       | inr rest ↦ elim (has-push_cases xs x y rest) [ inl old ↦ inl (or_right (eqb z y) (has xs y) old) | inr new ↦ inr new ]
     ]
 
-has-get_or : (xs : List ℕ) (k d : ℕ) → k < length xs → has xs (get_or xs k d) ≡ true
+pub has-get_or : (xs : List ℕ) (k d : ℕ) → k < length xs → has xs (get_or xs k d) ≡ true
 has-get_or [] k d l = absurd (omega arith)
 has-get_or (x ∷ xs) zero d l = or_left (eqb x x) (has xs x) (eq-eqb x x refl)
 has-get_or (x ∷ xs) (suc k) d l = or_right (eqb x (get_or xs k d)) (has xs (get_or xs k d)) (has-get_or xs k d (omega arith))
@@ -58,7 +58,7 @@ has-insert_new key (y ∷ ys) x =
     (λ _. or_left (eqb x x) (has (y ∷ ys) x) (eq-eqb x x refl))
     (λ _. or_right (eqb y x) (has (insert_falling key ys x) x) (has-insert_new key ys x))
 
-has-fold_falling : (key : ℕ → ℕ) (done xs : List ℕ) (c : ℕ) → (has done c ≡ true) ⊎ (has xs c ≡ true) → has (fold (insert_falling key) done xs) c ≡ true
+pub has-fold_falling : (key : ℕ → ℕ) (done xs : List ℕ) (c : ℕ) → (has done c ≡ true) ⊎ (has xs c ≡ true) → has (fold (insert_falling key) done xs) c ≡ true
 has-fold_falling key done [] c (inl h) = h
 has-fold_falling key done [] c (inr h) = absurd (false≢true h)
 has-fold_falling key done (x ∷ xs) c (inl h) = has-fold_falling key (insert_falling key done x) xs c (inl (has-insert_old key done x c h))
@@ -178,15 +178,20 @@ visit_does n kids below (suc depth) x deep there out so_far =
       ];
     })
 
--- the order of a graph holds its gates alone, each once and after its children
-pub order-IsPlaced : (g : GraphView) → IsGraph g → IsPlaced g (order g)
-order-IsPlaced g sound =
+-- the order of a graph visits its roots
+pub order_visits : (g : GraphView) → IsGraph g → AreVisits (length g.kids) (falling_kids g) (length g.kids) (falling (slice_index (usages g)) g.roots) [] (order g)
+order_visits g sound =
     let n = length g.kids in
     let kids = falling_kids g in
     let below : ReadBelow kids = ReadBelow-falling g sound (slice_index (usages g)) in
     let roots = falling (slice_index (usages g)) g.roots in
     let roots_below : AreBelow n roots = AreBelow-All n roots (All-falling (λ r. r < n) (slice_index (usages g)) g.roots sound.roots_there) in
-    let all = visits n kids (visited kids) n (λ c l o s. visit_does n kids below (suc c) c (omega arith) l o s) roots roots_below [] (nothing_yet n kids) in
+    visits n kids (visited kids) n (λ c l o s. visit_does n kids below (suc c) c (omega arith) l o s) roots roots_below [] (nothing_yet n kids)
+
+-- it holds its gates alone, each once and after its children
+pub order-IsPlaced : (g : GraphView) → IsGraph g → IsPlaced g (order g)
+order-IsPlaced g sound =
+    let all = order_visits g sound in
     record {
       there = all.so_far.there;
       once = all.so_far.once;

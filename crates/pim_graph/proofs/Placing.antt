@@ -9,7 +9,7 @@ use Rattle.std.proofs.lemmas.Map.Steps.{length-le_from_distinct_below}
 use Rattle.pim_graph.specs.Graphs.{GraphView, has, kids_of}
 use Rattle.pim_graph.specs.Peaks.{IsPlaced, needed, peak_from}
 use Rattle.pim_graph.specs.Readers.{occurrences, reads, still_needed}
-use Rattle.pim_graph.proofs.ReadLemmas.{has-occurrences, read_by-reads, occurrences-push, one_at_most}
+use Rattle.pim_graph.proofs.ReadLemmas.{has-occurrences, needed_counted, occurrences-push, one_at_most}
 
 or_left : (a b : Bool) → (a || b) ≡ false → a ≡ false
 or_left true b h = h
@@ -111,7 +111,7 @@ peak_step g order left p most held whole n h below is counted rest =
     let earlier = take p order in
     let cut : drop p order ≡ x ∷ later = drop_more order p 0 h in
     let grown : take (p + 1) order ≡ earlier ++ x ∷ [] = take_more order p 0 h in
-    let same : count_by (still_needed g left) earlier ≡ count_by (needed g (drop p order)) earlier = count_below (still_needed g left) (needed g (drop p order)) n (λ y l. ap (λ (m : ℕ). nat_lt 0 m || has g.roots y) (is y l) ∙ ap (λ (b : Bool). b || has g.roots y) (sym (read_by-reads g (drop p order) y))) earlier below in
+    let same : count_by (still_needed g left) earlier ≡ count_by (needed g (drop p order)) earlier = count_below (still_needed g left) (needed g (drop p order)) n (λ y l. needed_counted g (drop p order) left y (is y l)) earlier below in
     let here : peak_from g earlier (drop p order) ≡ max (count_by (needed g (x ∷ later)) earlier + 1) (peak_from g (earlier ++ x ∷ []) later) = ap (peak_from g earlier) cut in
     let readers = ap (λ (ys : List ℕ). count_by (needed g ys) earlier) cut in
     let after = ap (λ (ys : List ℕ). peak_from g ys later) grown in

@@ -4,7 +4,7 @@ use Rattle.std.proofs.lemmas.Bool.{cases_eq}
 use Rattle.std.proofs.lemmas.Bool.Decides.{nat_tests}
 use Rattle.std.proofs.lemmas.List.Sums.{sum_by-cons}
 use Rattle.pim_graph.specs.Graphs.{GraphView, has, kids_of}
-use Rattle.pim_graph.specs.Peaks.{read_by}
+use Rattle.pim_graph.specs.Peaks.{needed, read_by}
 use Rattle.std.proofs.lemmas.List.{get_or-set_same, get_or-set_other, drop_more, get_or_default}
 use Rattle.pim_graph.specs.Readers.{occurrences, reads, still_needed}
 
@@ -22,6 +22,11 @@ has-occurrences (y ∷ ys) x = or_lt (cond (eqb y x) 1 0) (occurrences ys x) (eq
 pub read_by-reads : (g : GraphView) (ys : List ℕ) (x : ℕ) → read_by g ys x ≡ nat_lt 0 (reads g ys x)
 read_by-reads g [] x = refl
 read_by-reads g (y ∷ ys) x = or_lt (occurrences (kids_of g y) x) (reads g ys x) (has (kids_of g y) x) (read_by g ys x) (has-occurrences (kids_of g y) x) (read_by-reads g ys x)
+
+-- where the reads of a gate are counted, the count tells whether it is needed
+pub needed_counted : (g : GraphView) (readers left : List ℕ) (x : ℕ) → get_or left x 0 ≡ reads g readers x → still_needed g left x ≡ needed g readers x
+needed_counted g readers left x is =
+    ap (λ (n : ℕ). nat_lt 0 n || has g.roots x) is ∙ ap (λ (b : Bool). b || has g.roots x) (sym (read_by-reads g readers x))
 
 -- a count of one test and of another that differs at one number
 counted : (p : ℕ → Bool) (x : ℕ) (xs : List ℕ) → count_by p (x ∷ xs) ≡ cond (p x) 1 0 + count_by p xs

@@ -5,7 +5,7 @@ use Rattle.std.proofs.lemmas.Bool.Decides.{nat_tests}
 use Rattle.std.proofs.lemmas.List.{get_or_append_left, get_or_push, length_push, length-map, length-set, map_push, map-set, get_or-map, set-get_or, get_or-set_same, get_or-set_other}
 use Rattle.std.proofs.lemmas.List.Elements.{All-push}
 use Rattle.pim_graph.specs.Graphs.{GraphView, IsGraph, has}
-use Rattle.pim_graph.specs.Nodes.{children_of, view_of, IsNodeOf, IsWhole}
+use Rattle.pim_graph.specs.inner.Nodes.{children_of, view_of, IsNodeOf, IsWhole}
 use Rattle.pim_graph.specs.declared.graph.Node.{Node}
 
 eqb_other : (a b : ℕ) → a ≢ b → eqb a b ≡ false

@@ -1,5 +1,5 @@
+pub mod inner
 pub mod Graphs
-pub mod Nodes
 pub mod Orders
 pub mod Peaks
 pub mod Readers

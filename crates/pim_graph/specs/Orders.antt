@@ -1,5 +1,5 @@
 -- The order of a depth-first visit.
-use Rattle.std.specs.Prelude.{ℕ, zero, suc, if◌then◌else◌, List, [], ◌∷◌, ◌++◌, fold, slice_index}
+use Rattle.std.specs.Prelude.{◌≡◌, ℕ, true, zero, suc, if◌then◌else◌, List, [], ◌∷◌, ◌++◌, fold, slice_index}
 use Rattle.pim_graph.specs.Graphs.{GraphView, has, kids_of}
 use Rattle.pim_graph.specs.Usages.{falling, usages}
 
@@ -20,3 +20,8 @@ falling_kids g x = falling (slice_index (usages g)) (kids_of g x)
 -- the order of a graph: its roots are visited by falling usage, and at each gate its children
 abbrev pub order : GraphView → List ℕ
 order g = fold (visited (falling_kids g)) [] (falling (slice_index (usages g)) g.roots)
+
+-- the roots reach a gate where it is one of them, or where a gate that they reach reads it
+pub data IsReached (g : GraphView) : ℕ → Type 0 where
+  as_root : {gate : ℕ} → has g.roots gate ≡ true → IsReached g gate
+  as_child : {reader gate : ℕ} → IsReached g reader → has (kids_of g reader) gate ≡ true → IsReached g gate

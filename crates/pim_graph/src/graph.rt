@@ -1,6 +1,6 @@
 ghost use Rattle.std.specs.Prelude.{◌≡◌, ◌==◌, ◌+◌, ◌<◌, ◌≤◌, ◌^◌, ◌∷◌, ◌++◌, [], All, length, slice_index_or, if◌then◌else◌, IfOk, OnErr, OnOk};
 ghost use Rattle.pim_graph.specs.Graphs.{IsGraph, has};
-ghost use Rattle.pim_graph.specs.Nodes.{IsNodeOf};
+ghost use Rattle.pim_graph.specs.inner.Nodes.{IsNodeOf};
 
 use pim_io::NoMemory;
 use std::alloc::Global;
@@ -23,7 +23,7 @@ pub struct Graph {
 
 impl Model for Graph {
     ghost use Rattle.pim_graph.specs.Graphs.{GraphView};
-    ghost use Rattle.pim_graph.specs.Nodes.{view_of, IsWhole};
+    ghost use Rattle.pim_graph.specs.inner.Nodes.{view_of, IsWhole};
 
     ghost Value = { GraphView };
 

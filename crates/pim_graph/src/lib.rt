@@ -5,7 +5,8 @@
 mod falling;
 mod graph;
 mod ordering;
-mod sweep;
+mod peaks;
+mod readers;
 #[cfg(test)]
 mod tests;
 mod usages;
@@ -13,5 +14,6 @@ mod walk;
 
 pub use graph::Graph;
 pub use ordering::order;
-pub use sweep::peak;
+pub use peaks::peak;
+pub use readers::Readers;
 pub use usages::usage;

@@ -1,7 +1,7 @@
-ghost use Rattle.std.specs.Prelude.{◌≡◌, IfOk};
-ghost use Rattle.pim_graph.specs.Graphs.{IsGraph};
-ghost use Rattle.pim_graph.specs.Orders.{order};
-ghost use Rattle.pim_graph.specs.Peaks.{IsPlaced};
+ghost use Rattle.std.specs.Prelude.{◌≡◌, ◌+◌, ◌<◌, ℕ, true, All, drop, slice_index, IfOk, vec_len};
+ghost use Rattle.pim_graph.specs.Graphs.{IsGraph, has};
+ghost use Rattle.pim_graph.specs.Orders.{IsReached, order};
+ghost use Rattle.pim_graph.specs.Peaks.{IsPlaced, needed};
 
 use crate::Graph;
 use crate::falling::sort_falling;
@@ -16,6 +16,10 @@ use std::alloc::Global;
 pub fn order(alloc: Global, graph: &Graph) -> Result<Vec<u32>, NoMemory>
     ensures order { IfOk result (λ gates. gates.items ≡ order graph.now) }
     ensures placed { IfOk result (λ gates. IsPlaced graph.now gates.items) }
+    ensures reached { IfOk result (λ gates. All (IsReached graph.now) gates.items) }
+    ensures complete { IfOk result (λ gates. (gate : ℕ) → IsReached graph.now gate → has gates.items gate ≡ true) }
+    ensures needed { IfOk result (λ gates. (p : ℕ) → p < vec_len gates →
+        needed graph.now (drop (p + 1) gates.items) (slice_index gates.items p) ≡ true) }
 {
     let usage = usage(alloc, graph)?;
     let mut roots = Vec::from_slice(alloc, graph.roots())?;

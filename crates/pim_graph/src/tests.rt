@@ -1,4 +1,4 @@
-use crate::{Graph, order, peak, usage};
+use crate::{Graph, Readers, order, peak, usage};
 use std::test::Fail;
 
 /// Gate 2 reads gates 0 and 1, gate 3 reads gates 1 and 2, so gate 2 with its greater usage is visited first. Root 4 is
@@ -24,5 +24,25 @@ fn a_gate_and_what_it_reads(rt: HostRuntime) -> Result<(), Fail> {
     assert_eq!(rt; peak(rt.alloc(), &graph, &[])?, 0);
     assert_eq!(rt; graph.roots(), [4, 3].as_slice());
     assert_eq!(rt; graph.children(d), [1, 2].as_slice());
+    Ok(())
+}
+
+/// Gates 2 and 3 read gate 1, so it is spent once both reads are taken back. Gate 3 is read by none.
+#[test]
+fn reads_to_come(rt: HostRuntime) -> Result<(), Fail> {
+    let mut graph = Graph::new(rt.alloc());
+    let a = graph.add(&[])?;
+    let b = graph.add(&[])?;
+    let c = graph.add(&[a, b])?;
+    let d = graph.add(&[b, c])?;
+    graph.add_root(d)?;
+    let gates = order(rt.alloc(), &graph)?;
+    let mut readers = Readers::new(rt.alloc(), &graph, &gates)?;
+    assert_eq!(rt; readers.is_spent(d), true);
+    assert_eq!(rt; readers.is_spent(b), false);
+    readers.take_back(b);
+    assert_eq!(rt; readers.is_spent(b), false);
+    readers.take_back(b);
+    assert_eq!(rt; readers.is_spent(b), true);
     Ok(())
 }

@@ -1,9 +1,11 @@
 -- Worked examples of the definitions, by computation.
-use Rattle.std.proofs.Common.{◌≡◌, [], ◌∷◌, true, false, Some, None, refl}
+use Rattle.std.proofs.Common.{◌≡◌, ℕ, [], ◌∷◌, true, false, Some, None, Result, Err, refl, arith}
 use Rattle.pim_io.specs.declared.codes.Code.TheVariants.{Got, Long, Short}
 use Rattle.pim_io.specs.Codes.{code_of, code_at}
 use Rattle.pim_io.specs.Lines.{lines}
 use Rattle.pim_io.specs.Names.{label}
+use Rattle.pim_io.specs.Outside.{Wrote, with_pieces}
+use Rattle.pim_io.specs.Readings.{◌>>=◌}
 use Rattle.pim_io.specs.Words.{words, number_of}
 
 -- two lines end in a newline, and the last doesn't
@@ -70,3 +72,15 @@ six_bytes = refl
 past_32_bits : code_at (255 ∷ 255 ∷ 255 ∷ 255 ∷ 31 ∷ []) 0 ≡ Long
 unfolding code_at
 past_32_bits = refl
+
+-- pieces are written one behind another
+pieces_stand_in_order : with_pieces [] ((1 ∷ 2 ∷ []) ∷ [] ∷ (3 ∷ []) ∷ []) ≡ 1 ∷ 2 ∷ 3 ∷ []
+pieces_stand_in_order = refl
+
+-- a sink that took two of three bytes and then failed
+two_were_taken : Wrote {A = ℕ} {E = ℕ} (Err 0) (Some (7 ∷ [])) (Some (7 ∷ 1 ∷ 2 ∷ [])) 4 5 (1 ∷ 2 ∷ 3 ∷ [])
+two_were_taken = (refl, omega arith)
+
+-- the first fault stands
+the_first_fault_stands : (f : ℕ → Result ℕ ℕ) → (Err 1 >>= f) ≡ Err 1
+the_first_fault_stands f = refl

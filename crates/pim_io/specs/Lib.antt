@@ -1,8 +1,11 @@
+pub mod Adapters
 pub mod Bits
 pub mod Codes
 pub mod Lanes
 pub mod Lines
 pub mod Memory
 pub mod Names
+pub mod Options
 pub mod Outside
+pub mod Readings
 pub mod Words

@@ -45,8 +45,8 @@ abbrev pub lines_left : ScanView → List LineView
 lines_left scan = lines_after scan.number scan.start [] scan.rest
 
 -- a line as it is handed out
-abbrev pub line_of : Line → LineView
-line_of line = record { number = line.number; start = line.start; text = line.text.now; ended = line.ended }
+abbrev pub line_view : Line → LineView
+line_view line = record { number = line.number; start = line.start; text = line.text.now; ended = line.ended }
 
 -- what a scan has left once it has handed out its next line
 abbrev pub after_line : ScanView → LineView → ScanView

@@ -1,9 +1,6 @@
 -- Sources and sinks in memory, which say beforehand which of their calls fail.
-use Rattle.std.specs.Prelude.{ℕ, ◌+◌, ◌-◌, ◌^◌, List, ◌++◌, length, take, drop, min}
-
--- a count after one more, which stands still at its type's end
-abbrev pub raised : ℕ → ℕ
-raised count = min (count + 1) (2 ^ 64 - 1)
+use Rattle.std.specs.Prelude.{ℕ, ◌-◌, List, ◌++◌, length, take, drop, min}
+use Rattle.pim_io.specs.Outside.{raised}
 
 -- a source in memory: the bytes that are left, the most bytes that a call gives, the numbers of the calls that fail, the
 -- number of the next call, from 0, and how many calls failed

@@ -1,9 +1,13 @@
 -- What a read and a write mean, on the bytes that are told, and how a count of faults rises.
-use Rattle.std.specs.Prelude.{◌≡◌, ℕ, ◌+◌, ◌-◌, ◌^◌, ◌≤◌, List, [], ◌++◌, Option, Some, None, length, take, drop, min}
+use Rattle.std.specs.Prelude.{◌≡◌, ℕ, ◌+◌, ◌-◌, ◌^◌, ◌≤◌, List, [], ◌∷◌, ◌++◌, Option, Some, None, Result, Ok, Err, length, take, drop, min}
+
+-- a count after one more, which stands still at its type's end
+abbrev pub raised : ℕ → ℕ
+raised count = min (count + 1) (2 ^ 64 - 1)
 
 -- the count rose between the two moments, or it stands at its type's end
 abbrev pub Rose : ℕ → ℕ → Type 0
-Rose before now = min (before + 1) (2 ^ 64 - 1) ≤ now
+Rose before now = raised before ≤ now
 
 -- the first n bytes that were left stand in the front of the buffer and are left no longer; n is 0 only at the end
 pub record Read (bytes now before after : List ℕ) (n : ℕ) : Type 0 where
@@ -12,16 +16,16 @@ pub record Read (bytes now before after : List ℕ) (n : ℕ) : Type 0 where
   pub end : n ≡ 0 → bytes ≡ []
 
 -- a read of n bytes, where the bytes are told before and after
-abbrev pub Gives : Option (List ℕ) → Option (List ℕ) → List ℕ → List ℕ → ℕ → Type 0
-Gives None _ before after n = Unit {0}
-Gives (Some bytes) None before after n = ⊥
-Gives (Some bytes) (Some now) before after n = Read bytes now before after n
+abbrev pub GaveSome : Option (List ℕ) → Option (List ℕ) → List ℕ → List ℕ → ℕ → Type 0
+GaveSome None _ before after n = Unit {0}
+GaveSome (Some bytes) None before after n = ⊥
+GaveSome (Some bytes) (Some now) before after n = Read bytes now before after n
 
 -- a write of n bytes, where the bytes are told before and after: the first n of the piece were appended, and no more
-abbrev pub Takes : Option (List ℕ) → Option (List ℕ) → List ℕ → ℕ → Type 0
-Takes None _ piece n = Unit {0}
-Takes (Some bytes) None piece n = ⊥
-Takes (Some bytes) (Some now) piece n = now ≡ bytes ++ take n piece
+abbrev pub TookSome : Option (List ℕ) → Option (List ℕ) → List ℕ → ℕ → Type 0
+TookSome None _ piece n = Unit {0}
+TookSome (Some bytes) None piece n = ⊥
+TookSome (Some bytes) (Some now) piece n = now ≡ bytes ++ take n piece
 
 -- where the bytes are told before, they are told after, and P holds of both
 abbrev pub Told : Option (List ℕ) → Option (List ℕ) → (List ℕ → List ℕ → Type 0) → Type 0
@@ -59,3 +63,18 @@ TookAll taken_before taken_now piece = Told taken_before taken_now (λ before no
 abbrev pub TookFirst : Option (List ℕ) → Option (List ℕ) → List ℕ → Type 0
 TookFirst taken_before taken_now piece =
     Told taken_before taken_now (λ before now. now ≡ before ++ take (length now - length before) piece)
+
+-- where the bytes are told, they stay as they were
+abbrev pub Stays : Option (List ℕ) → Option (List ℕ) → Type 0
+Stays told_before told_now = Told told_before told_now (λ before now. now ≡ before)
+
+-- a call that wrote a text: with Ok the sink took all of it, and its count of faults stayed; with Err it took a front of it,
+-- and its count rose
+abbrev pub Wrote : {A E : Type 0} → Result A E → Option (List ℕ) → Option (List ℕ) → ℕ → ℕ → List ℕ → Type 0
+Wrote (Ok _) taken_before taken_now faults faults_now text = TookAll taken_before taken_now text × (faults_now ≡ faults)
+Wrote (Err _) taken_before taken_now faults faults_now text = TookFirst taken_before taken_now text × Rose faults faults_now
+
+-- a text with pieces behind it, one after another
+abbrev pub with_pieces : List ℕ → List (List ℕ) → List ℕ
+with_pieces text [] = text
+with_pieces text (piece ∷ pieces) = with_pieces (text ++ piece) pieces

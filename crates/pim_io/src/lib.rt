@@ -3,6 +3,7 @@
 #![tactic(auto)]
 
 mod codes;
+mod limits;
 mod mem_sink;
 mod mem_source;
 mod memory;
@@ -20,10 +21,11 @@ mod write_sink;
 mod writing;
 
 pub use codes::{Code, get_code, put_code};
+pub use limits::{MAX_INPUT, MAX_NAME, MAX_PROGRAM};
 pub use mem_sink::MemSink;
 pub use mem_source::MemSource;
 pub use memory::NoMemory;
-pub use name::{MAX_NAME, Name};
+pub use name::{Name, is_label};
 pub use read_source::ReadSource;
 pub use reading::{ReadAllFault, read_all};
 pub use scan::{Line, Scan, without_return};
@@ -32,4 +34,4 @@ pub use slice_source::SliceSource;
 pub use source::{Source, SourceFault};
 pub use words::{Words, first_space, is_blank, number};
 pub use write_sink::WriteSink;
-pub use writing::write_all;
+pub use writing::{write_all, write_pieces};

@@ -1,4 +1,4 @@
-ghost use Rattle.std.specs.Prelude.{◌≡◌, ◌<◌, ◌≤◌, ◌↔◌, ◌⊎◌, ◌++◌, [], length, take, IfOk, OnErr, IsErr, IsTrue, Contains, MatchResult};
+ghost use Rattle.std.specs.Prelude.{◌≡◌, ◌<◌, ◌≤◌, ◌↔◌, ◌⊎◌, ◌++◌, [], length, take, IfOk, OnOk, OnErr, IsErr, IsTrue, Contains, MatchResult};
 ghost use Rattle.pim_io.specs.Outside.{Rose};
 ghost use Rattle.pim_io.specs.Memory.{taken_len, after_write, after_failed_write};
 
@@ -98,6 +98,7 @@ impl Sink for MemSink {
         ensures within { 0 < length piece.now → IfOk result (λ n. (0 < n) × (n ≤ length piece.now)) }
         ensures takes { 0 < length piece.now → IfOk result (λ n. self.new.taken ≡ self.old.taken ++ take n piece.now) }
         ensures stays { OnErr result (self.new.taken ≡ self.old.taken) }
+        ensures steady { OnOk result (self.new.faults ≡ self.old.faults) }
         ensures counted { OnErr result (Rose self.old.faults self.new.faults) }
         ensures never_falls { self.old.faults ≤ self.new.faults }
         ensures fails { 0 < length piece.now →

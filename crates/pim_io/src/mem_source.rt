@@ -1,4 +1,4 @@
-ghost use Rattle.std.specs.Prelude.{◌≡◌, ◌<◌, ◌≤◌, ◌↔◌, length, min, IfOk, OnErr, IsErr, Contains, MatchResult};
+ghost use Rattle.std.specs.Prelude.{◌≡◌, ◌<◌, ◌≤◌, ◌↔◌, length, min, IfOk, OnOk, OnErr, IsErr, Contains, MatchResult};
 ghost use Rattle.pim_io.specs.Outside.{Rose, Read};
 ghost use Rattle.pim_io.specs.Memory.{after_read, after_failed_read};
 
@@ -75,6 +75,7 @@ impl Source for MemSource {
         ensures within { 0 < length buf.old → IfOk result (λ n. n ≤ length buf.old) }
         ensures gives { 0 < length buf.old → IfOk result (Read self.old.left self.new.left buf.old buf.new) }
         ensures stays { OnErr result (self.new.left ≡ self.old.left) }
+        ensures steady { OnOk result (self.new.faults ≡ self.old.faults) }
         ensures counted { OnErr result (Rose self.old.faults self.new.faults) }
         ensures never_falls { self.old.faults ≤ self.new.faults }
         ensures fails { IsErr result ↔ Contains self.old.failing self.old.calls }

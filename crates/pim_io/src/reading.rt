@@ -1,4 +1,4 @@
-ghost use Rattle.std.specs.Prelude.{◌≡◌, ◌+◌, ◌<◌, ◌≤◌, ◌++◌, ◌≢◌, length, take, vec_len, IfOk, IfErr, OnErr};
+ghost use Rattle.std.specs.Prelude.{◌≡◌, ◌+◌, ◌<◌, ◌≤◌, ◌++◌, ◌≢◌, length, take, vec_len, IfOk, IfErr, OnOk, OnErr};
 ghost use Rattle.pim_io.specs.Outside.{Rose, Gave, GaveAll, GaveFirst, GaveAtMost, IsSpent};
 
 use crate::Source;
@@ -36,6 +36,8 @@ pub fn read_all<S: Source>(
     ensures others { IfErr result (λ fault. fault ≢ ReadAllFault.TooLong
         → GaveAtMost (S.left source.old) (S.left source.new) limit) }
 
+    ensures steady { OnOk result (S.faults source.new ≡ S.faults source.old) }
+    ensures spared { IfErr result (λ fault. fault ≢ ReadAllFault.Fault → S.faults source.new ≡ S.faults source.old) }
     ensures fault { result ≡ Err ReadAllFault.Fault → Rose (S.faults source.old) (S.faults source.new) }
     ensures never_falls { S.faults source.old ≤ S.faults source.new }
 {
@@ -66,6 +68,8 @@ fn read_on<S: Source>(
     ensures end { IfOk result (λ n. n ≡ 0 → IsSpent (S.left source.old) (S.left source.new)) }
     ensures stays { OnErr result (S.left source.new ≡ S.left source.old) }
     ensures kept { OnErr result (vec_len bytes.new ≡ vec_len bytes.old) }
+    ensures steady { OnOk result (S.faults source.new ≡ S.faults source.old) }
+    ensures spared { IfErr result (λ fault. fault ≢ ReadAllFault.Fault → S.faults source.new ≡ S.faults source.old) }
     ensures fault { result ≡ Err ReadAllFault.Fault → Rose (S.faults source.old) (S.faults source.new) }
     ensures short { result ≢ Err ReadAllFault.TooLong }
     ensures never_falls { S.faults source.old ≤ S.faults source.new }

@@ -1,6 +1,7 @@
 ghost use Rattle.std.specs.Prelude.{◌≡◌, ℕ, ◌∷◌, ◌<◌, ◌≤◌, ◌^◌, [], true, false, length, slice_index, IfSome, MatchOption};
-ghost use Rattle.pim_io.specs.Lines.{line_of, lines_left, after_line, is_newline, without_return};
+ghost use Rattle.pim_io.specs.Lines.{line_view, lines_left, after_line, is_newline, without_return};
 
+use memchr::memchr;
 use std::marker::Model;
 
 /// A line of bytes: its number, from 1; the place of its first byte, from 0; its bytes, without the newline; and whether
@@ -49,11 +50,11 @@ impl<'a> Scan<'a> {
     pub fn line(&mut self) -> Option<Line<'a>>
         ensures lines { MatchOption result
             (lines_left self.old ≡ [])
-            (λ line. lines_left self.old ≡ line_of line ∷ lines_left self.new) }
+            (λ line. lines_left self.old ≡ line_view line ∷ lines_left self.new) }
         ensures end { MatchOption result (self.old.rest ≡ []) (λ line. 0 < length self.old.rest) }
         ensures after { MatchOption result
             (self.new ≡ self.old)
-            (λ line. self.new ≡ after_line self.old (line_of line)) }
+            (λ line. self.new ≡ after_line self.old (line_view line)) }
         ensures shorter { IfSome result (λ line. length self.new.rest < length self.old.rest) }
     {
         let bytes = self.rest;
@@ -102,10 +103,8 @@ fn line_len(bytes: &[u8]) -> usize
     ensures before { (k : ℕ) → k < result → is_newline (slice_index bytes.now k) ≡ false }
     ensures found { result < length bytes.now → is_newline (slice_index bytes.now result) ≡ true }
 {
-    for (i, b) in bytes.iter().enumerate() {
-        if *b == b'\n' {
-            return i;
-        }
+    match memchr(b'\n', bytes) {
+        Some(len) => len,
+        None => bytes.len(),
     }
-    bytes.len()
 }

@@ -1,5 +1,5 @@
-ghost use Rattle.std.specs.Prelude.{◌≡◌, ℕ, ◌<◌, ◌≤◌, List, length, Option, IfOk, OnErr};
-ghost use Rattle.pim_io.specs.Outside.{Rose, Takes};
+ghost use Rattle.std.specs.Prelude.{◌≡◌, ℕ, ◌<◌, ◌≤◌, List, length, Option, IfOk, OnOk, OnErr};
+ghost use Rattle.pim_io.specs.Outside.{Rose, TookSome};
 
 use thiserror::Error;
 
@@ -16,12 +16,14 @@ pub trait Sink {
     /// How many writes failed, up to the greatest number that the count can hold.
     ghost faults: { Self → ℕ };
 
-    /// Takes some bytes from the front of `piece`, at least one, and says how many.
+    /// Takes some bytes from the front of `piece`, at least one, and says how many. A fault raises the count, and nothing
+    /// else does.
     /// What it does on an empty piece is left open, but for the count and the bytes that a fault leaves.
     fn write(&mut self, piece: &[u8]) -> Result<usize, SinkFault>
         ensures within { 0 < length piece.now → IfOk result (λ n. (0 < n) × (n ≤ length piece.now)) }
-        ensures takes { 0 < length piece.now → IfOk result (Takes (taken self.old) (taken self.new) piece.now) }
+        ensures takes { 0 < length piece.now → IfOk result (TookSome (taken self.old) (taken self.new) piece.now) }
         ensures stays { OnErr result (taken self.new ≡ taken self.old) }
+        ensures steady { OnOk result (faults self.new ≡ faults self.old) }
         ensures counted { OnErr result (Rose (faults self.old) (faults self.new)) }
         ensures never_falls { faults self.old ≤ faults self.new };
 }

@@ -1,7 +1,7 @@
 use crate::{
     Code, Line, MemSink, MemSource, Name, ReadAllFault, ReadSource, Scan, SliceSource, Words,
-    WriteSink, first_space, get_code, is_blank, number, put_code, read_all, without_return,
-    write_all,
+    WriteSink, first_space, get_code, is_blank, is_label, number, put_code, read_all,
+    without_return, write_all, write_pieces,
 };
 use std::test::Fail;
 
@@ -93,6 +93,7 @@ fn numbers_are_read(rt: HostRuntime) {
 fn names_are_shown(rt: HostRuntime) -> Result<(), Fail> {
     let name = Name::label(rt.alloc(), b"a\tb\x7f")?;
     assert_eq!(rt; name.bytes(), b"a?b?".as_slice());
+    assert!(rt; is_label(b"a?b?") && !is_label(b"a\tb") && !is_label(b"\x7f") && !is_label(b""));
     Ok(())
 }
 
@@ -146,6 +147,11 @@ fn pieces_are_written(rt: HostRuntime) -> Result<(), Fail> {
     assert!(rt; write_all(&mut writer, b"hello").is_ok());
     drop(writer);
     assert_eq!(rt; out.as_slice(), b"hello".as_slice());
+    let mut pieces = MemSink::new(rt.alloc(), 5, 2, &[])?;
+    assert!(rt; write_pieces(&mut pieces, &[b"he", b"", b"l"]).is_ok());
+    assert_eq!(rt; pieces.bytes(), b"hel".as_slice());
+    assert!(rt; write_pieces(&mut pieces, &[b"l", b"o!"]).is_err());
+    assert_eq!(rt; pieces.bytes(), b"hello".as_slice());
     let mut failing = MemSink::new(rt.alloc(), 5, 2, &[1])?;
     assert!(rt; write_all(&mut failing, b"hello").is_err());
     assert_eq!(rt; failing.bytes(), b"he".as_slice());

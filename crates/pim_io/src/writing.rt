@@ -1,11 +1,12 @@
-ghost use Rattle.std.specs.Prelude.{◌≤◌, OnOk, OnErr};
-ghost use Rattle.pim_io.specs.Outside.{Rose, TookAll, TookFirst};
+ghost use Rattle.std.specs.Prelude.{◌≤◌, [], map, OnOk, OnErr};
+ghost use Rattle.pim_io.specs.Outside.{Rose, TookAll, TookFirst, Wrote, with_pieces};
 
 use crate::{Sink, SinkFault};
 
 /// Writes a whole piece to a sink. On a fault the sink took a prefix of the piece. Linear in the calls that the sink needs;
 /// each takes at least one byte.
 pub fn write_all<K: Sink>(sink: &mut K, piece: &[u8]) -> Result<(), SinkFault>
+    ensures wrote { Wrote result (K.taken sink.old) (K.taken sink.new) (K.faults sink.old) (K.faults sink.new) piece.now }
     ensures whole { OnOk result (TookAll (K.taken sink.old) (K.taken sink.new) piece.now) }
     ensures prefix { OnErr result (TookFirst (K.taken sink.old) (K.taken sink.new) piece.now) }
     ensures counted { OnErr result (Rose (K.faults sink.old) (K.faults sink.new)) }
@@ -14,6 +15,19 @@ pub fn write_all<K: Sink>(sink: &mut K, piece: &[u8]) -> Result<(), SinkFault>
     let mut at = 0;
     while at < piece.len() {
         at += sink.write(&piece[at..])?;
+    }
+    Ok(())
+}
+
+/// Writes pieces to a sink, one after another. On a fault the sink took a prefix of them all. Linear in the pieces and the
+/// calls that the sink needs.
+pub fn write_pieces<K: Sink>(sink: &mut K, pieces: &[&[u8]]) -> Result<(), SinkFault>
+    ensures wrote { Wrote result (K.taken sink.old) (K.taken sink.new) (K.faults sink.old) (K.faults sink.new)
+        (with_pieces [] (map (λ piece. piece.now) pieces.now)) }
+    ensures never_falls { K.faults sink.old ≤ K.faults sink.new }
+{
+    for piece in pieces {
+        write_all(sink, piece)?;
     }
     Ok(())
 }

@@ -13,7 +13,8 @@ use Rattle.pim_isa.specs.Programs.{ProgramView}
 use Rattle.pim_isa.specs.Validity.{fault_of}
 use Rattle.pim_isa.specs.Steps.{step, exec, exec_k}
 use Rattle.pim_isa.specs.Primed.{IsPrimed}
-use Rattle.pim_isa.specs.Live.{IsLive}
+use Rattle.pim_isa.specs.Live.{is_live}
+use Rattle.pim_isa.specs.Writes.{last_write, nor_places}
 use Rattle.pim_isa.specs.Results.{load, result_of}
 use Rattle.pim_isa.proofs.PrimedLemmas.{primed_from_front, front_from_primed}
 
@@ -82,14 +83,27 @@ twice_is_not : IsPrimed (Init (1 ∷ []) ∷ Nor 1 (ins.One 0) ∷ Nor 1 (ins.On
 twice_is_not primed =
     let from_front : IsTrue false = (front_from_primed (Init (1 ∷ []) ∷ Nor 1 (ins.One 0) ∷ Nor 1 (ins.One 0) ∷ []) primed).1.1.0 in cc
 
-input_is_live : IsLive and_program 1 1
+input_is_live : is_live and_program 1 1 ≡ true
 input_is_live = refl
 
-input_is_done : IsLive and_program 2 1 → ⊥
-input_is_done live = let dead : IsTrue false = live in cc
+input_is_done : is_live and_program 2 1 ≡ false
+input_is_done = refl
 
-output_is_live : IsLive and_program 4 4
+output_is_live : is_live and_program 4 4 ≡ true
 output_is_live = refl
+
+-- ---- where cells are written
+written_by_the_init : last_write (Init (2 ∷ 3 ∷ 4 ∷ []) ∷ Nor 2 (ins.One 1) ∷ []) 3 ≡ Some 0
+written_by_the_init = refl
+
+written_again : last_write and_instrs 3 ≡ Some 2
+written_again = refl
+
+never_written : last_write and_instrs 1 ≡ None
+never_written = refl
+
+the_nors : nor_places and_instrs ≡ 1 ∷ 2 ∷ 3 ∷ []
+the_nors = refl
 
 -- ---- each fault
 and_is_faultless : fault_of and_program ≡ None

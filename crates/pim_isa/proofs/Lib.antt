@@ -4,4 +4,5 @@ pub mod SoundLemmas
 pub mod PrimedLemmas
 pub mod LoadLemmas
 pub mod StepLemmas
+pub mod WriteLemmas
 mod Examples

@@ -6,7 +6,7 @@ use Rattle.std.proofs.lemmas.List.{length-set, get_or-set_same, get_or-set_other
 use Rattle.pim_isa.specs.declared.port.Port.{Port}
 use Rattle.pim_isa.specs.Programs.{ProgramView}
 use Rattle.pim_isa.specs.Validity.{bad_input, bad_output, bad_port, has}
-use Rattle.pim_isa.specs.Drafts.{Notes}
+use Rattle.pim_isa.specs.inner.Drafts.{Notes}
 
 -- the cells of the ports
 abbrev cells_of : List Port → List ℕ

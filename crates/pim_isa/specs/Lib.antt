@@ -3,9 +3,12 @@ pub mod Programs
 pub mod PortLists
 pub mod Validity
 pub mod Sound
-pub mod Drafts
 pub mod Steps
 pub mod Primed
+pub mod Writes
 pub mod Live
 pub mod Results
+pub mod Realizes
+pub mod Laws
 pub mod Machines
+pub mod inner

@@ -1,10 +1,10 @@
 -- What holds of every program.
-use Rattle.std.specs.Prelude.{◌≡◌, ◌≢◌, ℕ, ◌+◌, ◌^◌, ◌<◌, ◌≤◌, true, false, List, length, map, None, All, AllPairs}
+use Rattle.std.specs.Prelude.{◌≡◌, ◌≢◌, ℕ, ◌+◌, ◌<◌, ◌≤◌, true, false, List, length, map, None, All, AllPairs}
 use Rattle.pim_io.specs.Names.{IsLabel}
 use Rattle.pim_isa.specs.declared.target.Target.{Target}
 use Rattle.pim_isa.specs.declared.instr.Instr.{Instr}
 use Rattle.pim_isa.specs.declared.port.Port.{Port}
-use Rattle.pim_isa.specs.declared.draft.TheConstants.{MAX_CELLS}
+use Rattle.pim_isa.specs.declared.draft.TheConstants.{MAX_CELLS, MAX_PORTS, MAX_INSTRS}
 use Rattle.pim_isa.specs.Programs.{ProgramView}
 use Rattle.pim_isa.specs.Touches.{names}
 use Rattle.pim_isa.specs.Validity.{suits, has_good_list, reads_target, fault_of}
@@ -35,8 +35,8 @@ HasLabel p = IsLabel p.label
 -- a draft within the bounds that has no fault
 pub record IsProgram (p : ProgramView) : Type 0 where
   pub small : p.cells ≤ MAX_CELLS
-  pub few_ports : length p.inputs + length p.outputs < 2 ^ 28
-  pub few_instrs : length p.instrs < 2 ^ 28
+  pub few_ports : length p.inputs + length p.outputs ≤ MAX_PORTS
+  pub few_instrs : length p.instrs ≤ MAX_INSTRS
   pub input_labels : All HasLabel p.inputs
   pub output_labels : All HasLabel p.outputs
   pub faultless : fault_of p ≡ None

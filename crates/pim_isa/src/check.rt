@@ -1,7 +1,8 @@
-ghost use Rattle.std.specs.Prelude.{◌≡◌, ◌+◌, ◌<◌, ◌^◌, length};
+ghost use Rattle.std.specs.Prelude.{◌≡◌, ◌+◌, ◌≤◌, length};
 ghost use Rattle.pim_isa.specs.Touches.{names};
 ghost use Rattle.pim_isa.specs.Validity.{suits, is_rising, has_good_list, leaves, reads_target, instr_fault, first_instr_fault, bad_output};
 
+use crate::draft::{MAX_INSTRS, MAX_PORTS};
 use crate::instr::Instr;
 use crate::invalid::Invalid;
 use crate::port::Port;
@@ -9,7 +10,7 @@ use crate::target::Target;
 
 /// The place of the first output that isn't below the cells, counted on from `first`.
 pub(crate) fn bad_output(cells: u32, first: usize, outputs: &[Port]) -> Option<usize>
-    requires { first + length outputs.now < 2 ^ 28 }
+    requires { first + length outputs.now ≤ MAX_PORTS }
     ensures { result ≡ bad_output cells first outputs.now }
 {
     for (k, port) in outputs.iter().enumerate() {
@@ -22,7 +23,7 @@ pub(crate) fn bad_output(cells: u32, first: usize, outputs: &[Port]) -> Option<u
 
 /// The first fault of the instructions. Linear in the cells that they name.
 pub(crate) fn first_instr_fault(target: Target, cells: u32, instrs: &[Instr]) -> Option<Invalid>
-    requires { length instrs.now < 2 ^ 28 }
+    requires { length instrs.now ≤ MAX_INSTRS }
     ensures { result ≡ first_instr_fault target cells 0 instrs.now }
 {
     for (place, instr) in instrs.iter().enumerate() {

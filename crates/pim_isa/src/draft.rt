@@ -16,6 +16,12 @@ use std::marker::Model;
 /// The most cells that a program may have.
 pub const MAX_CELLS: u32 = 1_048_576;
 
+/// The most inputs and outputs that a program may have, counted together.
+pub const MAX_PORTS: u32 = 268_435_456;
+
+/// The most instructions that a program may have.
+pub const MAX_INSTRS: u32 = 268_435_456;
+
 /// A program that is not checked yet: it grows by one port or one instruction at a time.
 #[derive(Debug, Drop)]
 pub struct ProgramDraft {
@@ -35,7 +41,7 @@ pub struct ProgramDraft {
 
 impl Model for ProgramDraft {
     ghost use Rattle.pim_isa.specs.Programs.{ProgramView};
-    ghost use Rattle.pim_isa.specs.Drafts.{IsDraft};
+    ghost use Rattle.pim_isa.specs.inner.Drafts.{IsDraft};
 
     ghost Value = { ProgramView };
 
@@ -109,8 +115,8 @@ impl ProgramDraft {
 
     /// The first fault: that of the ports, else that of the instructions in order.
     pub(crate) fn fault(&self) -> Option<Invalid>
-        requires few_ports { length self.now.inputs + length self.now.outputs < 2 ^ 28 }
-        requires few_instrs { length self.now.instrs < 2 ^ 28 }
+        requires few_ports { length self.now.inputs + length self.now.outputs ≤ MAX_PORTS }
+        requires few_instrs { length self.now.instrs ≤ MAX_INSTRS }
         ensures fault { result ≡ fault_of self.now }
         ensures small { self.now.cells ≤ MAX_CELLS }
         ensures input_labels { All HasLabel self.now.inputs }

@@ -16,7 +16,7 @@ mod target;
 mod tests;
 
 pub use cells::Cells;
-pub use draft::{MAX_CELLS, ProgramDraft};
+pub use draft::{MAX_CELLS, MAX_INSTRS, MAX_PORTS, ProgramDraft};
 pub use instr::{Ins, Instr, Operand};
 pub use invalid::Invalid;
 pub use machine::Machine;

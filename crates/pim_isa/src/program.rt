@@ -1,9 +1,11 @@
-ghost use Rattle.std.specs.Prelude.{◌≡◌, ◌+◌, ◌<◌, ◌^◌, false, length, Some, None, IsOk, IfOk, IfErr, OnOk};
+ghost use Rattle.std.specs.Prelude.{◌≡◌, ◌+◌, ◌≤◌, Bool, List, false, length, Some, None, IsOk, IfOk, IfErr, OnOk, ℕ};
 ghost use Rattle.pim_isa.specs.Primed.{IsPrimed, IsPrimedFrom};
 ghost use Rattle.pim_isa.specs.Validity.{fault_of};
 ghost use Rattle.pim_isa.specs.Sound.{IsSound, IsProgram};
+ghost use Rattle.pim_isa.specs.Realizes.{Realizes};
+ghost use Rattle.pim_isa.specs.Laws.{ExecLaws, WriteLaws};
 
-use crate::draft::ProgramDraft;
+use crate::draft::{MAX_INSTRS, MAX_PORTS, ProgramDraft};
 use crate::instr::Instr;
 use crate::invalid::Invalid;
 use crate::port::Port;
@@ -49,8 +51,8 @@ impl Program {
     /// The program of a draft that has no fault, or its first fault. Takes no memory. Linear in the ports and in the
     /// cells that the instructions name.
     pub fn new(draft: ProgramDraft) -> Result<Program, Invalid>
-        requires few_ports { length draft.inputs + length draft.outputs < 2 ^ 28 }
-        requires few_instrs { length draft.instrs < 2 ^ 28 }
+        requires few_ports { length draft.inputs + length draft.outputs ≤ MAX_PORTS }
+        requires few_instrs { length draft.instrs ≤ MAX_INSTRS }
         ensures program { IfOk result (λ program. program ≡ draft) }
         ensures faultless { OnOk result (fault_of draft ≡ None) }
         ensures fault { IfErr result (λ fault. fault_of draft ≡ Some fault) }
@@ -83,6 +85,20 @@ impl Program {
     /// with no cell ready at first, is primed at each place.
     pub fn primed_from_front(&self)
         ensures { IsPrimedFrom (λ _. false) self.now.instrs → IsPrimed self.now.instrs }
+    {
+        let _ = &self.instrs;
+    }
+
+    /// The laws of instructions that follow one another, for those who make programs: it computes nothing.
+    pub fn laws(&self)
+        ensures exec { ExecLaws }
+        ensures writes { WriteLaws }
+
+        // A program that realizes a function realizes each function that agrees with it on as many bits as inputs.
+        ensures function { (labels : List (List ℕ)) (f g : List Bool → List Bool)
+            → Realizes self.now labels f
+            → ((bits : List Bool) → length bits ≡ length labels → f bits ≡ g bits)
+            → Realizes self.now labels g }
     {
         let _ = &self.instrs;
     }

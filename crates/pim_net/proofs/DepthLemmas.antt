@@ -1,7 +1,8 @@
 -- Depths do not hang on how far they are followed.
 use Rattle.std.proofs.Common.{◌≡◌, ℕ, zero, suc, ◌+◌, ◌-◌, ◌<◌, ◌≤◌, max, List, [], ◌∷◌, Option, Some, None, map, length, get_or, refl, ap, sym, ◌∙◌, subst, arith}
 use Rattle.std.specs.Prelude.{option_map, slice_get}
-use Rattle.pim_net.specs.Depths.{deepest, equation_depth, driver_depth, depth_below}
+use Rattle.pim_net.specs.Depths.{deepest, equation_depth}
+use Rattle.pim_net.specs.inner.Drivers.{driver_depth, depth_by}
 use Rattle.pim_net.specs.declared.parts.Equation.{Equation}
 use Rattle.pim_net.specs.declared.driver.Driver.{Driver}
 use Rattle.pim_net.specs.declared.driver.Driver.TheVariants.{Nobody, Input, Cover}
@@ -59,24 +60,24 @@ driver_to f g equations (Input j) l same h = h
 driver_to f g equations (Cover j) l same h = equation_to f g (slice_get equations j) l same h
 
 -- one more step keeps a depth
-pub depth_more : (drivers : ℕ → Driver) (equations : List Equation) (k s l : ℕ) → depth_below drivers equations k s ≡ Some l → depth_below drivers equations (suc k) s ≡ Some l
+pub depth_more : (drivers : ℕ → Driver) (equations : List Equation) (k s l : ℕ) → depth_by drivers equations k s ≡ Some l → depth_by drivers equations (suc k) s ≡ Some l
 depth_more drivers equations zero s l h = cc
 depth_more drivers equations (suc k) s l h =
-    driver_to (λ c. depth_below drivers equations k c) (λ c. depth_below drivers equations (suc k) c) equations (drivers s) l (λ c d low e. depth_more drivers equations k c d e) h
+    driver_to (λ c. depth_by drivers equations k c) (λ c. depth_by drivers equations (suc k) c) equations (drivers s) l (λ c d low e. depth_more drivers equations k c d e) h
 
 -- so do any number of them
-pub depth_on : (drivers : ℕ → Driver) (equations : List Equation) (k m s l : ℕ) → depth_below drivers equations k s ≡ Some l → depth_below drivers equations (m + k) s ≡ Some l
-depth_on drivers equations k zero s l h = subst (λ n. depth_below drivers equations n s ≡ Some l) (let e : k ≡ 0 + k = omega arith in e) h
+pub depth_on : (drivers : ℕ → Driver) (equations : List Equation) (k m s l : ℕ) → depth_by drivers equations k s ≡ Some l → depth_by drivers equations (m + k) s ≡ Some l
+depth_on drivers equations k zero s l h = subst (λ n. depth_by drivers equations n s ≡ Some l) (let e : k ≡ 0 + k = omega arith in e) h
 depth_on drivers equations k (suc m) s l h =
     let more = depth_more drivers equations (m + k) s l (depth_on drivers equations k m s l h) in
-    subst (λ n. depth_below drivers equations n s ≡ Some l) (let e : suc (m + k) ≡ suc m + k = omega arith in e) more
+    subst (λ n. depth_by drivers equations n s ≡ Some l) (let e : suc (m + k) ≡ suc m + k = omega arith in e) more
 
-pub depth_to : (drivers : ℕ → Driver) (equations : List Equation) (k n s l : ℕ) → k ≤ n → depth_below drivers equations k s ≡ Some l → depth_below drivers equations n s ≡ Some l
+pub depth_to : (drivers : ℕ → Driver) (equations : List Equation) (k n s l : ℕ) → k ≤ n → depth_by drivers equations k s ≡ Some l → depth_by drivers equations n s ≡ Some l
 depth_to drivers equations k n s l low h =
-    subst (λ x. depth_below drivers equations x s ≡ Some l) (let e : (n - k) + k ≡ n = omega arith in e) (depth_on drivers equations k (n - k) s l h)
+    subst (λ x. depth_by drivers equations x s ≡ Some l) (let e : (n - k) + k ≡ n = omega arith in e) (depth_on drivers equations k (n - k) s l h)
 
 -- a depth of l is found within l + 1 steps
-pub depth_low : (drivers : ℕ → Driver) (equations : List Equation) (k s l : ℕ) → depth_below drivers equations k s ≡ Some l → depth_below drivers equations (suc l) s ≡ Some l
+pub depth_low : (drivers : ℕ → Driver) (equations : List Equation) (k s l : ℕ) → depth_by drivers equations k s ≡ Some l → depth_by drivers equations (suc l) s ≡ Some l
 depth_low drivers equations zero s l h = cc
 depth_low drivers equations (suc k) s l h =
-    driver_to (λ c. depth_below drivers equations k c) (λ c. depth_below drivers equations l c) equations (drivers s) l (λ c d low e. depth_to drivers equations (suc d) l c d low (depth_low drivers equations k c d e)) h
+    driver_to (λ c. depth_by drivers equations k c) (λ c. depth_by drivers equations l c) equations (drivers s) l (λ c d low e. depth_to drivers equations (suc d) l c d low (depth_low drivers equations k c d e)) h

@@ -2,7 +2,7 @@
 use Rattle.std.proofs.Common.{◌≡◌, ◌<◌, ℕ, List, length, get_or, ap}
 use Rattle.std.proofs.lemmas.Option.{slice_get-get_or}
 use Rattle.pim_net.specs.WellFormed.{columns}
-use Rattle.pim_net.specs.Walks.{ins}
+use Rattle.pim_net.specs.inner.DepthFirst.{ins}
 use Rattle.pim_net.specs.declared.parts.Equation.{Equation}
 
 -- the columns of an equation that was read

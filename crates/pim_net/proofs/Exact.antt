@@ -1,19 +1,18 @@
 -- A well-formed draft has no fault.
-use Rattle.std.proofs.Common.{◌≡◌, ◌≢◌, ℕ, suc, ◌++◌, Bool, true, false, cond, List, [], ◌∷◌, Option, Some, None, All, length, get_or, refl, ap, sym, ◌∙◌, subst, ⊎_elim, arith}
+use Rattle.std.proofs.Common.{◌≡◌, ◌≢◌, ℕ, suc, ◌++◌, Bool, true, false, cond, List, [], ◌∷◌, Option, Some, None, All, length, get_or, refl, ap, sym, ◌∙◌, subst, arith}
 use Rattle.std.specs.Prelude.{is_some, is_none, option_map, find, AllPairs, Contains, IsSome}
 use Rattle.std.specs.Option.{option_or}
 use Rattle.std.proofs.lemmas.List.{append_assoc, length-append, get_or_append_left, get_or_at, get_or_default}
-use Rattle.std.proofs.lemmas.List.Elements.{Contains-append_cases}
-use Rattle.pim_net.specs.Drivers.{place, sigs, driven, read, driver, driver_by, is_nobody}
+use Rattle.pim_net.specs.Drivers.{place, driven, read}
 use Rattle.pim_net.specs.Depths.{depth}
-use Rattle.pim_net.specs.Faults.{first_repeat, walk, fault_of, undriven, cycle}
+use Rattle.pim_net.specs.Faults.{first_repeat, walk, next_signal, fault_of, undriven, cycle}
 use Rattle.pim_net.specs.WellFormed.{IsWellFormed}
 use Rattle.pim_net.specs.declared.parts.Equation.{Equation}
 use Rattle.pim_net.specs.declared.parts.OutRef.{OutRef}
 use Rattle.pim_net.specs.declared.fault.NetFault.TheVariants.{Twice, Undriven, Cycle}
 use Rattle.pim_net.proofs.Repeats.{place_is, place_has}
 
--- a number apart from all before it has no place there
+-- a number other than all before it has no place there
 no_place : (before xs : List ℕ) (x : ℕ) → AllPairs ◌≢◌ (before ++ x ∷ xs) → is_some (place x before) ≡ false
 no_place before xs x apart = by (place x before) refl
   where
@@ -26,8 +25,8 @@ no_place before xs x apart = by (place x before) refl
         let second = get_or_at before x xs 0 (length before) refl in
         absurd (apart j (length before) 0 w.0 (omega (arith, long)) (first ∙ w.1 ∙ sym second))
 
--- where all are apart, nothing repeats
-apart_once : (before xs : List ℕ) → AllPairs ◌≢◌ (before ++ xs) → first_repeat before xs ≡ None
+-- where all are different, nothing repeats
+pub apart_once : (before xs : List ℕ) → AllPairs ◌≢◌ (before ++ xs) → first_repeat before xs ≡ None
 apart_once before [] apart = refl
 apart_once before (x ∷ xs) apart =
     ap (λ b. cond b (Some x) (first_repeat (before ++ x ∷ []) xs)) (no_place before xs x apart)
@@ -38,25 +37,13 @@ find_no : {X : Type 0} (p : X → Bool) (xs : List X) → All (λ x. p x ≡ fal
 find_no p [] none = refl
 find_no p (x ∷ xs) none = ap (λ b. cond b (Some x) (find p xs)) (none 0 x (omega arith)) ∙ find_no p xs (λ k d h. none (suc k) d (omega arith))
 
--- what is among the driven has a driver
-not_nobody : (inputs signals : List ℕ) (s : ℕ) → Contains (inputs ++ signals) s → is_nobody (driver_by (place s inputs) (place s signals)) ≡ false
-not_nobody inputs signals s contains =
-    ⊎_elim
-    (λ (w : Contains inputs s). by_input (place s inputs) (place s signals) (at inputs w))
-    (λ (w : Contains signals s). by_cover (place s inputs) (place s signals) (at signals w))
-    (Contains-append_cases inputs signals s contains)
+-- what is in a list has a place in it
+has_place : (xs : List ℕ) (s : ℕ) → Contains xs s → is_none (place s xs) ≡ false
+has_place xs s w = by (place s xs) (ap (λ n. is_some (place n xs)) (sym (get_or_default xs w.0 0 s w.1 ∙ w.2)) ∙ place_has xs w.0 w.1)
   where
-    at : (xs : List ℕ) → Contains xs s → is_some (place s xs) ≡ true
-    at xs w = ap (λ n. is_some (place n xs)) (sym (get_or_default xs w.0 0 s w.1 ∙ w.2)) ∙ place_has xs w.0 w.1
-
-    by_input : (p q : Option ℕ) → is_some p ≡ true → is_nobody (driver_by p q) ≡ false
-    by_input None q h = cc
-    by_input (Some j) q h = refl
-
-    by_cover : (p q : Option ℕ) → is_some q ≡ true → is_nobody (driver_by p q) ≡ false
-    by_cover p None h = cc
-    by_cover (Some j) (Some k) h = refl
-    by_cover None (Some k) h = refl
+    by : (p : Option ℕ) → is_some p ≡ true → is_none p ≡ false
+    by None h = cc
+    by (Some k) h = refl
 
 some_not_none : (o : Option ℕ) → IsSome o → is_none o ≡ false
 some_not_none None h = cc
@@ -65,8 +52,8 @@ some_not_none (Some l) h = refl
 pub formed_sound : (inputs : List ℕ) (es : List Equation) (outputs : List OutRef) → IsWellFormed inputs es outputs → fault_of inputs es outputs ≡ None
 formed_sound inputs es outputs formed =
     let once = apart_once [] (driven inputs es) formed.once in
-    let lack = find_no (λ s. is_nobody (driver inputs es s)) (read es outputs) (λ k d h. not_nobody inputs (sigs es) (get_or (read es outputs) k d) (formed.driven k d h)) in
-    let round : cycle inputs es ≡ None = ap (option_map (λ (e : Equation). walk (driver inputs es) (depth inputs es) es (suc (length es)) [] (Some e.sig)))
+    let lack = find_no (λ s. is_none (place s (driven inputs es))) (read es outputs) (λ k d h. has_place (driven inputs es) (get_or (read es outputs) k d) (formed.driven k d h)) in
+    let round : cycle inputs es ≡ None = ap (option_map (λ (e : Equation). walk (next_signal inputs es) (suc (length es)) [] (Some e.sig)))
     (find_no (λ (e : Equation). is_none (depth inputs es e.sig)) es (λ k d h. some_not_none (depth inputs es (get_or es k d).sig) (formed.deep k d h))) in
     ap (λ o. option_or (option_map Twice o) (option_or (option_map Undriven (undriven inputs es outputs)) (option_map Cycle (cycle inputs es)))) once
     ∙ ap (λ o. option_or (option_map Undriven o) (option_map Cycle (cycle inputs es))) lack

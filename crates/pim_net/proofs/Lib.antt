@@ -1,4 +1,5 @@
 pub mod Buckets
+pub mod ByDrivers
 pub mod DepthLemmas
 pub mod Equations
 pub mod Exact

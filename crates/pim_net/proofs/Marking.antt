@@ -5,11 +5,12 @@ use Rattle.std.proofs.lemmas.List.{get_or-set_same, get_or-set_other, length-set
 use Rattle.std.proofs.lemmas.List.Sums.{sum_by-set}
 use Rattle.std.proofs.lemmas.List.Folds.{sum_by-replicate}
 use Rattle.std.proofs.lemmas.Bool.{cases_eq}
-use Rattle.pim_net.specs.Tables.{drivers_of}
-use Rattle.pim_net.specs.Depths.{deepest, driver_depth, depth_below}
-use Rattle.pim_net.specs.Walks.{ins, sig, IsWired, deep, mark, is_new, is_deep, Among, Apart, EachOpen, EachBelow, IsFrame, IsTrail, IsMarked, marked_depth, depth_mark, column_of, IsLevelled, IsRound, IsCycleFault}
+use Rattle.pim_net.specs.inner.Tables.{drivers_of}
+use Rattle.pim_net.specs.Depths.{deepest}
+use Rattle.pim_net.specs.inner.Drivers.{driver_depth, depth_by, next_by, cycle_by}
+use Rattle.pim_net.specs.inner.DepthFirst.{ins, sig, IsWired, deep, mark, is_new, is_deep, IsOnTrail, IsOffTrail, EachOpen, EachBelow, IsFrame, IsTrail, IsMarked, marked_depth, depth_mark, column_of, IsLevelled, IsRound, IsCycleFault}
 use Rattle.pim_net.specs.Drivers.{sigs}
-use Rattle.pim_net.specs.Faults.{walk, cycle_by}
+use Rattle.pim_net.specs.Faults.{walk}
 use Rattle.pim_net.specs.declared.fault.NetFault.{NetFault}
 use Rattle.pim_net.specs.declared.fault.NetFault.TheVariants.{Twice, Undriven, Cycle, NoMemory}
 use Rattle.pim_net.specs.declared.parts.Equation.{Equation}
@@ -25,13 +26,13 @@ use Rattle.pim_net.proofs.Trails.{step_up, head_frame}
 count_set : (p : Mark → Bool) (marks : List Mark) (k : ℕ) (y : Mark) → k < length marks → count_by p (set marks k y) + cond (p (mark marks k)) 1 0 ≡ count_by p marks + cond (p y) 1 0
 count_set p marks k y within = sum_by-set (λ x. cond (p x) 1 0) marks k y New within
 
-each_open : (marks : List Mark) (trail : List Frame) (k : ℕ) (y : Mark) → EachOpen marks trail → Apart k trail → EachOpen (set marks k y) trail
+each_open : (marks : List Mark) (trail : List Frame) (k : ℕ) (y : Mark) → EachOpen marks trail → IsOffTrail k trail → EachOpen (set marks k y) trail
 each_open marks [] k y opened apart = tt
 each_open marks (f ∷ trail) k y opened apart =
     (get_or-set_other marks k f.equation y New apart.0 ∙ opened.0, each_open marks trail k y opened.1 apart.1)
 
 -- what is new is apart from all that is open
-new_apart : (marks : List Mark) (trail : List Frame) (k : ℕ) → EachOpen marks trail → mark marks k ≡ New → Apart k trail
+new_apart : (marks : List Mark) (trail : List Frame) (k : ℕ) → EachOpen marks trail → mark marks k ≡ New → IsOffTrail k trail
 new_apart marks [] k opened fresh = tt
 new_apart marks (f ∷ trail) k opened fresh =
     ((λ (e : f.equation ≡ k). let both : Open ≡ New = sym opened.0 ∙ ap (mark marks) e ∙ fresh in let no : ⊥ = cc in no), new_apart marks trail k opened.1 fresh)
@@ -87,7 +88,7 @@ trail_start es table root f within named start shallow = (
   named,
 )
 
-apart_top : (es : List Equation) (table : List Driver) (root : ℕ) (f : Frame) (trail : List Frame) → IsTrail es table root (f ∷ trail) → Apart f.equation trail
+apart_top : (es : List Equation) (table : List Driver) (root : ℕ) (f : Frame) (trail : List Frame) → IsTrail es table root (f ∷ trail) → IsOffTrail f.equation trail
 apart_top es table root f [] t = tt
 apart_top es table root f (g ∷ trail) t = t.3
 
@@ -116,7 +117,7 @@ marks_done es table root marks f trail wired old t all =
           (cases_eq j k);
       opens = λ j h. ⊎_elim
           (λ (e : j ≡ k). let both : Deep (f.depth + 1) ≡ Open = sym (get_or-set_same marks k y New inside) ∙ ap (mark (set marks k y)) (sym e) ∙ h in absurd (let no : ⊥ = cc in no))
-          (λ (ne : j ≡ k → ⊥). ⊎_elim (λ (e : f.equation ≡ j). absurd (ne (sym e))) (λ (a : Among j trail). a) (old.opens j (sym (get_or-set_other marks k j y New ne) ∙ h)))
+          (λ (ne : j ≡ k → ⊥). ⊎_elim (λ (e : f.equation ≡ j). absurd (ne (sym e))) (λ (a : IsOnTrail j trail). a) (old.opens j (sym (get_or-set_other marks k j y New ne) ∙ h)))
           (cases_eq j k);
       opened = each_open marks trail k y old.opened.1 (apart_top es table root f trail t);
       below = each_below (count_by is_deep marks) (count_by is_deep (set marks k y)) trail (omega (arith, deeps)) old.below.1;
@@ -142,7 +143,7 @@ marked_is es table marks trail c d wired old h = by (drivers_of table c) refl h
     by Nobody named h = cc
     by (Input j) named h =
         let same : 0 ≡ d = cc in
-        (ap (driver_depth (λ s. depth_below (drivers_of table) es (length es) s) es) named ∙ h, omega (arith, same))
+        (ap (driver_depth (λ s. depth_by (drivers_of table) es (length es) s) es) named ∙ h, omega (arith, same))
     by (Cover k) named h = of_mark (mark marks k) k refl named h
 
 deepest_push : (ds : List (Option ℕ)) (m d : ℕ) → deepest ds ≡ Some m → deepest (ds ++ Some d ∷ []) ≡ Some (max m d)
@@ -168,13 +169,13 @@ frame_past es table f g d frame inside has named on greatest =
 pub trail_past : (es : List Equation) (table : List Driver) (root : ℕ) (f g : Frame) (trail : List Frame) (d : ℕ) → IsTrail es table root (f ∷ trail) → f.column < length (ins es f.equation) → deep es table (column_of es f) ≡ Some d → g.equation ≡ f.equation → g.column ≡ f.column + 1 → g.depth ≡ max f.depth d → IsTrail es table root (g ∷ trail)
 trail_past es table root f g [] d t inside has named on greatest = (frame_past es table f g d t.0 inside has named on greatest, named ∙ t.1)
 trail_past es table root f g (h ∷ trail) d t inside has named on greatest =
-    (frame_past es table f g d t.0 inside has named on greatest, t.1, t.2 ∙ ap (sig es) (sym named), subst (λ n. Apart n (h ∷ trail)) (sym named) t.3, t.4)
+    (frame_past es table f g d t.0 inside has named on greatest, t.1, t.2 ∙ ap (sig es) (sym named), subst (λ n. IsOffTrail n (h ∷ trail)) (sym named) t.3, t.4)
 
 pub marks_past : (es : List Equation) (table : List Driver) (marks : List Mark) (f g : Frame) (trail : List Frame) (d : ℕ) → IsMarked es table marks (f ∷ trail) → d ≤ count_by is_deep marks → g.equation ≡ f.equation → g.depth ≡ max f.depth d → IsMarked es table marks (g ∷ trail)
 marks_past es table marks f g trail d old low named greatest = record {
   sized = old.sized;
   depths = old.depths;
-  opens = λ j h. ⊎_elim (λ (e : f.equation ≡ j). inl (named ∙ e)) (λ (a : Among j trail). inr a) (old.opens j h);
+  opens = λ j h. ⊎_elim (λ (e : f.equation ≡ j). inl (named ∙ e)) (λ (a : IsOnTrail j trail). inr a) (old.opens j h);
   opened = (ap (mark marks) named ∙ old.opened.0, old.opened.1);
   below = ((let h : f.depth ≤ count_by is_deep marks = old.below.0 in omega arith), old.below.1);
   counted = old.counted;
@@ -250,8 +251,8 @@ cycle_from es table marks root (Undriven s) within marked came round = round
 cycle_from es table marks root NoMemory within marked came round = tt
 cycle_from es table marks root (Cycle cycle) within marked came round =
     let w = first_without (deep es table) es root within (λ k h. let d = deep_of es table marks k marked (came k h) in has_depth (mark marks k) (deep es table (sig es k)) d.0 d.1) round.0 in (
-      ap (option_map (λ (e : Equation). walk (drivers_of table) (deep es table) es (suc (length es)) [] (Some e.sig))) w.1
-          ∙ ap (λ s. Some (walk (drivers_of table) (deep es table) es (suc (length es)) [] (Some s))) w.2
+      ap (option_map (λ (e : Equation). walk (next_by (drivers_of table) (deep es table) es) (suc (length es)) [] (Some e.sig))) w.1
+          ∙ ap (λ s. Some (walk (next_by (drivers_of table) (deep es table) es) (suc (length es)) [] (Some s))) w.2
           ∙ ap Some round.1,
       round.2,
     )
@@ -259,5 +260,5 @@ cycle_from es table marks root (Cycle cycle) within marked came round =
 -- without a cycle each equation has its depth
 pub levelled_is : (es : List Equation) (table : List Driver) (marks : List Mark) → IsLevelled es table marks → cycle_by (drivers_of table) (deep es table) es ≡ None
 levelled_is es table marks l =
-    ap (option_map (λ (e : Equation). walk (drivers_of table) (deep es table) es (suc (length es)) [] (Some e.sig)))
+    ap (option_map (λ (e : Equation). walk (next_by (drivers_of table) (deep es table) es) (suc (length es)) [] (Some e.sig)))
     (all_with (deep es table) es (λ k h. has_depth (mark marks k) (deep es table (sig es k)) (l.all k h) (l.depths k h)))

@@ -5,7 +5,7 @@ use Rattle.std.proofs.lemmas.Bool.Decides.{eqb_tells}
 use Rattle.std.proofs.lemmas.List.{get_or-reverse, get_or_default, length-reverse}
 use Rattle.pim_net.specs.Cycles.{Reads, IsCycle}
 use Rattle.pim_net.specs.Faults.{back_to}
-use Rattle.pim_net.specs.Walks.{ins, sig, Among, IsTrail, column_of, trail_sigs}
+use Rattle.pim_net.specs.inner.DepthFirst.{ins, sig, IsOnTrail, IsTrail, column_of, trail_sigs}
 use Rattle.pim_net.specs.declared.parts.Equation.{Equation}
 use Rattle.pim_net.specs.declared.driver.Driver.{Driver}
 use Rattle.pim_net.specs.declared.mark.Frame.{Frame}
@@ -51,7 +51,7 @@ way_more es x s t way reads w = record {
     reads_of (suc i) h = let e : suc (i + 1) ≡ suc i + 1 = omega arith in subst (λ m. Reads es (get_or (x ∷ way) m 0) (get_or way i 0)) e (w.reads i (omega arith))
 
 -- back from the latest signal of a trail to a signal of it
-way_back : (es : List Equation) (table : List Driver) (root k : ℕ) (f : Frame) (trail : List Frame) → IsTrail es table root (f ∷ trail) → Among k (f ∷ trail) → IsWayBack es (sig es f.equation) (sig es k) (back_to (sig es k) (trail_sigs es (f ∷ trail)))
+way_back : (es : List Equation) (table : List Driver) (root k : ℕ) (f : Frame) (trail : List Frame) → IsTrail es table root (f ∷ trail) → IsOnTrail k (f ∷ trail) → IsWayBack es (sig es f.equation) (sig es k) (back_to (sig es k) (trail_sigs es (f ∷ trail)))
 way_back es table root k f [] t among =
     ⊎_elim
     (λ (h : (eqb (sig es f.equation) (sig es k) ≡ true) × (sig es f.equation ≡ sig es k)).
@@ -67,7 +67,7 @@ way_back es table root k f (g ∷ trail) t among =
     (λ (h : (eqb (sig es f.equation) (sig es k) ≡ false) × (sig es f.equation ≢ sig es k)).
     ⊎_elim
     (λ (e : f.equation ≡ k). absurd (h.1 (ap (sig es) e)))
-    (λ (a : Among k (g ∷ trail)).
+    (λ (a : IsOnTrail k (g ∷ trail)).
     let reads = subst (Reads es (sig es g.equation)) t.2 (reads_column es g.equation g.column (head_frame es table root g trail t.4).known t.1) in
     subst (IsWayBack es (sig es f.equation) (sig es k)) (sym (ap (λ b. cond b (sig es f.equation ∷ []) (sig es f.equation ∷ rest)) h.0))
     (way_more es (sig es f.equation) (sig es g.equation) (sig es k) rest reads (way_back es table root k g trail t.4 a)))
@@ -97,7 +97,7 @@ way_round es s t way reads w =
     }
 
 -- what a trail that comes round to its own equation k gives is a cycle
-pub round_is_cycle : (es : List Equation) (table : List Driver) (root k : ℕ) (f : Frame) (trail : List Frame) → IsTrail es table root (f ∷ trail) → Among k (f ∷ trail) → f.column < length (ins es f.equation) → column_of es f ≡ sig es k
+pub round_is_cycle : (es : List Equation) (table : List Driver) (root k : ℕ) (f : Frame) (trail : List Frame) → IsTrail es table root (f ∷ trail) → IsOnTrail k (f ∷ trail) → f.column < length (ins es f.equation) → column_of es f ≡ sig es k
     → IsCycle es (reverse (back_to (sig es k) (trail_sigs es (f ∷ trail))))
 round_is_cycle es table root k f trail t among inside reads =
     way_round es (sig es f.equation) (sig es k) (back_to (sig es k) (trail_sigs es (f ∷ trail)))

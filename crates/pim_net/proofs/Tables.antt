@@ -6,10 +6,11 @@ use Rattle.std.proofs.lemmas.List.{get_or-set_same, get_or-set_other, length-set
 use Rattle.std.proofs.lemmas.List.Elements.{All-head, All-tail}
 use Rattle.std.proofs.lemmas.Bool.{cases_lt}
 use mathlib.Core.Path.{fun_ext}
-use Rattle.pim_net.specs.Tables.{drivers_of}
+use Rattle.pim_net.specs.inner.Tables.{drivers_of}
 use Rattle.std.proofs.lemmas.Bool.Decides.{eqb_tells}
 use Rattle.pim_net.specs.Faults.{first_repeat}
-use Rattle.pim_net.specs.Drivers.{place, driver_by, is_nobody}
+use Rattle.pim_net.specs.Drivers.{place}
+use Rattle.pim_net.specs.inner.Drivers.{driver_by, is_nobody}
 use Rattle.pim_net.specs.declared.driver.Driver.{Driver}
 use Rattle.pim_net.specs.declared.driver.Driver.TheVariants.{Nobody, Input, Cover}
 
@@ -92,7 +93,7 @@ equation_taken xs ys table x tells within free s below =
     or_none None = refl
     or_none (Some k) = refl
 
--- the loop over the inputs: what the table says, and that no repeat was met
+-- the loop over the inputs: the drivers that the table has, and that no repeat was met
 pub record InputsDone (inputs signals : List ℕ) (size k : ℕ) (table : List Driver) : Type 0 where
   pub sized : length table ≡ size
   pub tells : Tells (take k inputs) [] table

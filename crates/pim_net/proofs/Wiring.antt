@@ -10,13 +10,15 @@ use Rattle.std.proofs.lemmas.List.FromFn.{get_or-range_with_len, length-range_wi
 use Rattle.std.proofs.lemmas.List.Sorted.{All-permutation, Contains-permutation}
 use Rattle.std.proofs.lemmas.Option.{slice_get_past}
 use Rattle.std.proofs.lemmas.Bool.{cases_lt}
-use Rattle.pim_net.specs.Drivers.{place, sigs, driven, read, driver, driver_by, is_nobody}
-use Rattle.pim_net.specs.Tables.{drivers_of}
-use Rattle.pim_net.specs.Depths.{depth, depth_below}
-use Rattle.pim_net.specs.Faults.{first_repeat, fault_of, cycle_by, IsRefusal}
+use Rattle.pim_net.specs.Drivers.{place, sigs, driven, read}
+use Rattle.pim_net.specs.inner.Drivers.{driver, driver_by, is_nobody, depth_by, cycle_by}
+use Rattle.pim_net.specs.inner.Tables.{drivers_of}
+use Rattle.pim_net.specs.Depths.{depth}
+use Rattle.pim_net.specs.Faults.{first_repeat, undriven, cycle, fault_of}
+use Rattle.pim_net.specs.inner.Judged.{IsRefusal}
 use Rattle.pim_net.specs.Order.{equation_level, IsByDepth}
 use Rattle.pim_net.specs.WellFormed.{IsWellFormed, IsReady, IsReadyOrder, columns}
-use Rattle.pim_net.specs.Walks.{ins, sig, IsWired, deep, mark, is_deep, depth_mark, level, IsLevelled, IsBefore, IsCycleFault}
+use Rattle.pim_net.specs.inner.DepthFirst.{ins, sig, IsWired, deep, mark, is_deep, depth_mark, level, IsLevelled, IsBefore, IsCycleFault}
 use Rattle.pim_net.specs.declared.parts.Equation.{Equation}
 use Rattle.pim_net.specs.declared.parts.OutRef.{OutRef}
 use Rattle.pim_net.specs.declared.driver.Driver.{Driver}
@@ -25,6 +27,7 @@ use Rattle.pim_net.specs.declared.mark.Mark.{Mark}
 use Rattle.pim_net.specs.declared.mark.Mark.TheVariants.{New, Open, Deep}
 use Rattle.pim_net.specs.declared.fault.NetFault.{NetFault}
 use Rattle.pim_net.specs.declared.fault.NetFault.TheVariants.{Twice, Undriven, Cycle, NoMemory}
+use Rattle.pim_net.proofs.ByDrivers.{depth_is, undriven_is, cycle_is}
 use Rattle.pim_net.proofs.Equations.{ins_read}
 use Rattle.pim_net.proofs.Repeats.{places, place_is, all_apart, find_none}
 use Rattle.pim_net.proofs.Trails.{equation_within, step_down}
@@ -60,7 +63,7 @@ wired inputs es outputs table size once sized same below all few narrow = record
   named = λ k within.
       let w = places inputs (sigs es) k once (omega (arith, length-map es (λ (x : Equation). x.sig))) in
       ap (λ f. f (sig es k)) same ∙ ap (λ p. driver_by p (place (sig es k) (sigs es))) w.0 ∙ ap (driver_by None) w.1;
-  inside = λ k j within inside.
+  in_table = λ k j within inside.
       let w = equation_within es k within in
       let cs : All (λ s. s < size) (ins es k) = subst (λ l. All (λ s. s < size) l) (sym (ins_read es k w.0 within)) (below k w.0 within) in
       let one = cs j 0 inside in omega (arith, one, sized);
@@ -97,7 +100,7 @@ is_some_deep (Deep l) h = refl
 
 -- the depth of equation k is that of its mark
 marked_depth_is : (inputs : List ℕ) (es : List Equation) (table : List Driver) (marks : List Mark) (k : ℕ) → drivers_of table ≡ driver inputs es → IsLevelled es table marks → k < length es → depth inputs es (sig es k) ≡ depth_mark (mark marks k)
-marked_depth_is inputs es table marks k same levelled within = ap (λ f. depth_below f es (suc (length es)) (sig es k)) (sym same) ∙ levelled.depths k within
+marked_depth_is inputs es table marks k same levelled within = depth_is inputs es (sig es k) ∙ ap (λ f. depth_by f es (suc (length es)) (sig es k)) (sym same) ∙ levelled.depths k within
 
 pub well_formed : (inputs : List ℕ) (es : List Equation) (outputs : List OutRef) (table : List Driver) (marks : List Mark) → first_repeat [] (driven inputs es) ≡ None → drivers_of table ≡ driver inputs es
     → find (λ s. is_nobody (drivers_of table s)) (read es outputs) ≡ None → IsLevelled es table marks → IsWellFormed inputs es outputs
@@ -115,27 +118,27 @@ well_formed inputs es outputs table marks once same all levelled = record {
 pub sound : (inputs : List ℕ) (es : List Equation) (outputs : List OutRef) (table : List Driver) (marks : List Mark) → first_repeat [] (driven inputs es) ≡ None → drivers_of table ≡ driver inputs es
     → find (λ s. is_nobody (drivers_of table s)) (read es outputs) ≡ None → IsLevelled es table marks → fault_of inputs es outputs ≡ None
 sound inputs es outputs table marks once same all levelled =
-    let lack = ap (λ (f : ℕ → Driver). find (λ s. is_nobody (f s)) (read es outputs)) (sym same) ∙ all in
-    let round = ap (λ (f : ℕ → Driver). cycle_by f (λ s. depth_below f es (suc (length es)) s) es) (sym same) ∙ levelled_is es table marks levelled in
-    ap (λ o. option_or (option_map Twice o) (option_or (option_map Undriven (find (λ s. is_nobody (driver inputs es s)) (read es outputs))) (option_map Cycle (cycle_by (driver inputs es) (depth inputs es) es)))) once
-    ∙ ap (λ o. option_or (option_map Undriven o) (option_map Cycle (cycle_by (driver inputs es) (depth inputs es) es))) lack
+    let lack = undriven_is inputs es outputs ∙ ap (λ (f : ℕ → Driver). find (λ s. is_nobody (f s)) (read es outputs)) (sym same) ∙ all in
+    let round = cycle_is inputs es once ∙ ap (λ (f : ℕ → Driver). cycle_by f (λ s. depth_by f es (suc (length es)) s) es) (sym same) ∙ levelled_is es table marks levelled in
+    ap (λ o. option_or (option_map Twice o) (option_or (option_map Undriven (undriven inputs es outputs)) (option_map Cycle (cycle inputs es)))) once
+    ∙ ap (λ o. option_or (option_map Undriven o) (option_map Cycle (cycle inputs es))) lack
     ∙ ap (option_map Cycle) round
 
 -- the faults of the other kinds
 pub lacking : (inputs : List ℕ) (es : List Equation) (outputs : List OutRef) (table : List Driver) (s : ℕ) → first_repeat [] (driven inputs es) ≡ None → drivers_of table ≡ driver inputs es
     → find (λ s. is_nobody (drivers_of table s)) (read es outputs) ≡ Some s → fault_of inputs es outputs ≡ Some (Undriven s)
 lacking inputs es outputs table s once same found =
-    let lack = ap (λ (f : ℕ → Driver). find (λ s. is_nobody (f s)) (read es outputs)) (sym same) ∙ found in
-    ap (λ o. option_or (option_map Twice o) (option_or (option_map Undriven (find (λ s. is_nobody (driver inputs es s)) (read es outputs))) (option_map Cycle (cycle_by (driver inputs es) (depth inputs es) es)))) once
-    ∙ ap (λ o. option_or (option_map Undriven o) (option_map Cycle (cycle_by (driver inputs es) (depth inputs es) es))) lack
+    let lack = undriven_is inputs es outputs ∙ ap (λ (f : ℕ → Driver). find (λ s. is_nobody (f s)) (read es outputs)) (sym same) ∙ found in
+    ap (λ o. option_or (option_map Twice o) (option_or (option_map Undriven (undriven inputs es outputs)) (option_map Cycle (cycle inputs es)))) once
+    ∙ ap (λ o. option_or (option_map Undriven o) (option_map Cycle (cycle inputs es))) lack
 
-pub round : (inputs : List ℕ) (es : List Equation) (outputs : List OutRef) (table : List Driver) (cycle : List ℕ) → first_repeat [] (driven inputs es) ≡ None → drivers_of table ≡ driver inputs es
-    → find (λ s. is_nobody (drivers_of table s)) (read es outputs) ≡ None → cycle_by (drivers_of table) (deep es table) es ≡ Some cycle → fault_of inputs es outputs ≡ Some (Cycle cycle)
-round inputs es outputs table cycle once same all found =
-    let lack = ap (λ (f : ℕ → Driver). find (λ s. is_nobody (f s)) (read es outputs)) (sym same) ∙ all in
-    let round = ap (λ (f : ℕ → Driver). cycle_by f (λ s. depth_below f es (suc (length es)) s) es) (sym same) ∙ found in
-    ap (λ o. option_or (option_map Twice o) (option_or (option_map Undriven (find (λ s. is_nobody (driver inputs es s)) (read es outputs))) (option_map Cycle (cycle_by (driver inputs es) (depth inputs es) es)))) once
-    ∙ ap (λ o. option_or (option_map Undriven o) (option_map Cycle (cycle_by (driver inputs es) (depth inputs es) es))) lack
+pub round : (inputs : List ℕ) (es : List Equation) (outputs : List OutRef) (table : List Driver) (signals : List ℕ) → first_repeat [] (driven inputs es) ≡ None → drivers_of table ≡ driver inputs es
+    → find (λ s. is_nobody (drivers_of table s)) (read es outputs) ≡ None → cycle_by (drivers_of table) (deep es table) es ≡ Some signals → fault_of inputs es outputs ≡ Some (Cycle signals)
+round inputs es outputs table signals once same all found =
+    let lack = undriven_is inputs es outputs ∙ ap (λ (f : ℕ → Driver). find (λ s. is_nobody (f s)) (read es outputs)) (sym same) ∙ all in
+    let round = cycle_is inputs es once ∙ ap (λ (f : ℕ → Driver). cycle_by f (λ s. depth_by f es (suc (length es)) s) es) (sym same) ∙ found in
+    ap (λ o. option_or (option_map Twice o) (option_or (option_map Undriven (undriven inputs es outputs)) (option_map Cycle (cycle inputs es)))) once
+    ∙ ap (λ o. option_or (option_map Undriven o) (option_map Cycle (cycle inputs es))) lack
     ∙ ap (option_map Cycle) round
 
 -- the order holds equation numbers

@@ -1,10 +1,8 @@
--- What drives a signal, and which signals are read.
-use Rattle.std.specs.Prelude.{ℕ, suc, ◌==◌, ◌++◌, if◌then◌else◌, Bool, true, false, List, [], ◌∷◌, map, Option, Some, None, option_map}
+-- Which signals are driven, and by what, and which are read.
+use Rattle.std.specs.Prelude.{ℕ, suc, ◌==◌, ◌++◌, if◌then◌else◌, List, [], ◌∷◌, map, Option, Some, None, option_map, find}
 use Rattle.std.specs.List.{flat_map}
 use Rattle.pim_net.specs.declared.parts.Equation.{Equation}
 use Rattle.pim_net.specs.declared.parts.OutRef.{OutRef}
-use Rattle.pim_net.specs.declared.driver.Driver.{Driver}
-use Rattle.pim_net.specs.declared.driver.Driver.TheVariants.{Nobody, Input, Cover}
 
 -- the first place of a number in a list
 abbrev pub place : ℕ → List ℕ → Option ℕ
@@ -23,18 +21,6 @@ driven inputs equations = inputs ++ sigs equations
 abbrev pub read : List Equation → List OutRef → List ℕ
 read equations outputs = flat_map (λ e. e.cover.ins) equations ++ map (λ o. o.sig) outputs
 
--- the input at a place, or else the equation at a place, or else nobody
-abbrev pub driver_by : Option ℕ → Option ℕ → Driver
-driver_by (Some j) _ = Input j
-driver_by None (Some k) = Cover k
-driver_by None None = Nobody
-
--- what drives a signal: the first input of it, or else the first equation of it
-abbrev pub driver : List ℕ → List Equation → ℕ → Driver
-driver inputs equations s = driver_by (place s inputs) (place s (sigs equations))
-
--- nothing drives it
-abbrev pub is_nobody : Driver → Bool
-is_nobody Nobody = true
-is_nobody (Input j) = false
-is_nobody (Cover k) = false
+-- the equation that drives a signal: the first one of it
+abbrev pub equation_of : List Equation → ℕ → Option Equation
+equation_of equations s = find (λ (e : Equation). e.sig == s) equations

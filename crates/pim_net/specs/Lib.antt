@@ -3,12 +3,10 @@ pub mod Cycles
 pub mod Depths
 pub mod Drivers
 pub mod Faults
-pub mod Judged
 pub mod Labels
 pub mod Laws
 pub mod Netlist
 pub mod Order
-pub mod Tables
 pub mod Values
-pub mod Walks
 pub mod WellFormed
+pub mod inner

@@ -2,13 +2,11 @@
 use Rattle.std.specs.Prelude.{ℕ, zero, suc, ◌&&◌, if◌then◌else◌, Bool, true, false, not, List, [], ◌∷◌, map, length, Option, Some, None, option_map, unwrap_or, slice_get}
 use Rattle.std.specs.List.{list_any}
 use Rattle.pim_net.specs.Covers.{CoverView}
-use Rattle.pim_net.specs.Drivers.{driver}
+use Rattle.pim_net.specs.Drivers.{place, equation_of}
 use Rattle.pim_net.specs.Netlist.{NetView}
 use Rattle.pim_net.specs.declared.cover.Bit3.{Bit3}
 use Rattle.pim_net.specs.declared.cover.Bit3.TheVariants.{Zero, One, Any}
 use Rattle.pim_net.specs.declared.parts.Equation.{Equation}
-use Rattle.pim_net.specs.declared.driver.Driver.{Driver}
-use Rattle.pim_net.specs.declared.driver.Driver.TheVariants.{Nobody, Input, Cover}
 
 -- a cell that asks nothing holds, and one that asks for a value holds at that value
 abbrev pub cell_holds : Bit3 → Bool → Bool
@@ -37,17 +35,16 @@ abbrev pub equation_value : (ℕ → Option Bool) → Option Equation → Option
 equation_value below None = None
 equation_value below (Some e) = option_map (cover_value e.cover) (all_values (map below e.cover.ins))
 
--- the value that a driver gives
-abbrev pub driver_value : (ℕ → Option Bool) → List Equation → List Bool → Driver → Option Bool
-driver_value below equations bits Nobody = None
-driver_value below equations bits (Input j) = slice_get bits j
-driver_value below equations bits (Cover k) = equation_value below (slice_get equations k)
+-- the value of a signal: the bit of the input at this place, and else the value of the equation that drives it
+abbrev pub signal_value : (ℕ → Option Bool) → List Bool → Option ℕ → Option Equation → Option Bool
+signal_value below bits (Some j) equation = slice_get bits j
+signal_value below bits None equation = equation_value below equation
 
 -- the value of a signal, where no chain of equations is followed for more than k steps
 abbrev pub val : List ℕ → List Equation → List Bool → ℕ → ℕ → Option Bool
 val inputs equations bits zero s = None
 val inputs equations bits (suc k) s =
-    driver_value (λ c. val inputs equations bits k c) equations bits (driver inputs equations s)
+    signal_value (λ c. val inputs equations bits k c) bits (place s inputs) (equation_of equations s)
 
 -- the value of a signal, where the inputs have these bits
 abbrev pub value : NetView → List Bool → ℕ → Option Bool

@@ -1,4 +1,5 @@
-ghost use Rattle.std.specs.Prelude.{◌≡◌, ◌<◌, ◌≤◌, ◌+◌, ◌*◌, ◌^◌, ◌++◌, ◌∷◌, [], All, length, IfOk, OnOk, OnErr, Some, slice_get};
+ghost use Rattle.std.specs.Prelude.{◌≡◌, ◌<◌, ◌≤◌, ◌+◌, ◌*◌, ◌++◌, ◌∷◌, [], All, length, IfOk, OnOk, OnErr, Some, slice_get};
+ghost use Rattle.pim_net.specs.declared.limits.TheConstants.{MAX_COLUMNS, MAX_ROWS, MAX_SIGNALS};
 
 use pim_io::NoMemory;
 use std::alloc::Global;
@@ -26,7 +27,8 @@ pub struct Cover {
 }
 
 impl Model for Cover {
-    ghost use Rattle.std.specs.Prelude.{◌≡◌, ◌≤◌, ◌<◌, ◌*◌, ◌^◌, All, length};
+    ghost use Rattle.std.specs.Prelude.{◌≡◌, ◌≤◌, ◌<◌, ◌*◌, All, length};
+    ghost use Rattle.pim_net.specs.declared.limits.TheConstants.{MAX_COLUMNS, MAX_ROWS, MAX_SIGNALS};
     ghost use Rattle.pim_net.specs.Covers.{CoverView, rows_of};
 
     ghost Value = { CoverView };
@@ -39,9 +41,9 @@ impl Model for Cover {
 
     ghost invariant = { λ c. record {
       filled : length c.cells.items ≡ c.count * length c.ins.items;
-      below : All (λ s. s < 1048576) c.ins.items;
-      narrow : length c.ins.items < 2 ^ 28;
-      short : c.count ≤ 2 ^ 28;
+      below : All (λ s. s < MAX_SIGNALS) c.ins.items;
+      narrow : length c.ins.items < MAX_COLUMNS;
+      short : c.count ≤ MAX_ROWS;
     } };
 }
 
@@ -50,22 +52,32 @@ impl Cover {
 
     /// A cover of these columns with no rows, so that it is not `phase` everywhere. Linear in the columns.
     pub fn new(alloc: Global, ins: &[u32], phase: bool) -> Result<Cover, NoMemory>
-        requires below { All (λ s. s < 1048576) ins.now }
-        requires narrow { length ins.now < 2 ^ 28 }
+        requires below { All (λ s. s < MAX_SIGNALS) ins.now }
+        requires narrow { length ins.now < MAX_COLUMNS }
         ensures { IfOk result (λ cover. cover ≡ record { ins = ins.now; rows = []; phase = phase }) }
     {
-        Ok(Cover {
-            ins: Vec::from_slice(alloc, ins)?,
+        let ins = Vec::from_slice(alloc, ins)?;
+        Ok(Cover::from_vec(alloc, ins, phase))
+    }
+
+    /// A cover of these columns with no rows, which keeps the list that it is given. It takes no memory.
+    pub fn from_vec(alloc: Global, ins: Vec<u32>, phase: bool) -> Cover
+        requires below { All (λ s. s < MAX_SIGNALS) ins.items }
+        requires narrow { length ins.items < MAX_COLUMNS }
+        ensures { result ≡ record { ins = ins.items; rows = []; phase = phase } }
+    {
+        Cover {
+            ins,
             cells: Vec::new(alloc),
             count: 0,
             phase,
-        })
+        }
     }
 
     /// Adds a row, one cell per column. After a refusal the cover is as before. Linear in the columns.
     pub fn add_row(&mut self, row: &[Bit3]) -> Result<(), NoMemory>
         requires whole { length row.now ≡ length self.old.ins }
-        requires room { length self.old.rows < 2 ^ 28 }
+        requires room { length self.old.rows < MAX_ROWS }
         ensures ok { OnOk result (self.new ≡ record self.old { rows = self.old.rows ++ row.now ∷ [] }) }
         ensures err { OnErr result (self.new ≡ self.old) }
     {
@@ -74,11 +86,18 @@ impl Cover {
         Ok(())
     }
 
+    /// Changes what the cover is where some row holds. It takes no memory.
+    pub fn set_phase(&mut self, phase: bool)
+        ensures { self.new ≡ record self.old { phase = phase } }
+    {
+        self.phase = phase;
+    }
+
     /// The signals of the columns, in order.
     pub fn ins(&self) -> &[u32]
         ensures ins { result.now ≡ self.now.ins }
-        ensures below { All (λ s. s < 1048576) result.now }
-        ensures narrow { length result.now < 2 ^ 28 }
+        ensures below { All (λ s. s < MAX_SIGNALS) result.now }
+        ensures narrow { length result.now < MAX_COLUMNS }
     {
         self.ins.as_slice()
     }
@@ -87,7 +106,7 @@ impl Cover {
     pub fn row_count(&self) -> u32
         ensures count { result ≡ length self.now.rows }
         ensures whole { All (λ row. length row ≡ length self.now.ins) self.now.rows }
-        ensures short { result ≤ 2 ^ 28 }
+        ensures short { result ≤ MAX_ROWS }
     {
         self.count
     }

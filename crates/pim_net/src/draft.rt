@@ -1,6 +1,7 @@
-ghost use Rattle.std.specs.Prelude.{◌≡◌, ◌<◌, ◌+◌, ◌^◌, ◌++◌, ◌∷◌, [], length, OnOk, OnErr};
+ghost use Rattle.std.specs.Prelude.{◌≡◌, ◌<◌, ◌+◌, ◌++◌, ◌∷◌, [], length, OnOk, OnErr};
 ghost use Rattle.pim_io.specs.Names.{label};
 ghost use Rattle.pim_net.specs.Labels.{IsName};
+ghost use Rattle.pim_net.specs.declared.limits.TheConstants.{MAX_EQUATIONS, MAX_OUTPUTS, MAX_SIGNALS};
 
 use crate::{Cover, Equation, Names, OutRef};
 use pim_io::NoMemory;
@@ -57,9 +58,9 @@ impl Draft {
 
     /// Adds an input of this signal, and the label of its name. After a refusal the draft is as before.
     pub fn add_input(&mut self, sig: u32, name: &[u8]) -> Result<(), NoMemory>
-        requires below { sig < 1048576 }
+        requires below { sig < MAX_SIGNALS }
         requires labelled { IsName name.now }
-        requires room { length self.old.inputs < 1048576 }
+        requires room { length self.old.inputs < MAX_SIGNALS }
         ensures ok { OnOk result (self.new ≡ record self.old {
           inputs = self.old.inputs ++ sig ∷ [];
           input_labels = self.old.input_labels ++ label name.now ∷ [];
@@ -74,8 +75,8 @@ impl Draft {
 
     /// Adds the equation of this signal. After a refusal the draft is as before, and the cover is dropped.
     pub fn add_cover(&mut self, sig: u32, cover: Cover) -> Result<(), NoMemory>
-        requires below { sig < 1048576 }
-        requires room { length self.old.equations + 1 < 2 ^ 28 }
+        requires below { sig < MAX_SIGNALS }
+        requires room { length self.old.equations + 1 < MAX_EQUATIONS }
         ensures ok { OnOk result (self.new ≡ record self.old {
           equations = self.old.equations ++ record { sig = sig; cover = cover } ∷ [];
         }) }
@@ -89,9 +90,9 @@ impl Draft {
 
     /// Adds an output, and the label of its name. After a refusal the draft is as before.
     pub fn add_output(&mut self, out: OutRef, name: &[u8]) -> Result<(), NoMemory>
-        requires below { out.sig < 1048576 }
+        requires below { out.sig < MAX_SIGNALS }
         requires labelled { IsName name.now }
-        requires room { length self.old.outputs < 1048576 }
+        requires room { length self.old.outputs < MAX_OUTPUTS }
         ensures ok { OnOk result (self.new ≡ record self.old {
           outputs = self.old.outputs ++ out ∷ [];
           output_labels = self.old.output_labels ++ label name.now ∷ [];

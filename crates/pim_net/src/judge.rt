@@ -1,7 +1,7 @@
-ghost use Rattle.std.specs.Prelude.{◌≡◌, ◌<◌, ◌^◌, All, IfErr, MatchResult, ℕ, List, length};
+ghost use Rattle.std.specs.Prelude.{◌≡◌, ◌<◌, ◌≤◌, All, IfErr, MatchResult, ℕ, List, length};
 ghost use Rattle.pim_net.specs.Cycles.{IsCycle};
-ghost use Rattle.pim_net.specs.Faults.{IsRefusal};
-ghost use Rattle.pim_net.specs.Judged.{IsJudged};
+ghost use Rattle.pim_net.specs.inner.Judged.{IsJudged, IsRefusal};
+ghost use Rattle.pim_net.specs.declared.limits.TheConstants.{MAX_COLUMNS, MAX_EQUATIONS, MAX_SIGNALS};
 ghost use Rattle.pim_net.specs.declared.fault.NetFault.TheVariants.{Cycle};
 
 use crate::count::signal_count;
@@ -20,9 +20,9 @@ pub(crate) fn judge(
     equations: &[Equation],
     outputs: &[OutRef],
 ) -> Result<Vec<u32>, NetFault>
-    requires inputs_few { length inputs.now < 2 ^ 28 }
-    requires equations_few { length equations.now < 2 ^ 28 }
-    requires columns_few { All (λ e. length e.cover.ins < 2 ^ 28) equations.now }
+    requires inputs_few { length inputs.now ≤ MAX_SIGNALS }
+    requires equations_few { length equations.now < MAX_EQUATIONS }
+    requires columns_few { All (λ e. length e.cover.ins < MAX_COLUMNS) equations.now }
     ensures judged { MatchResult result
         (λ topo. IsJudged inputs.now equations.now outputs.now topo.items)
         (IsRefusal inputs.now equations.now outputs.now) }

@@ -1,5 +1,5 @@
 ghost use Rattle.std.specs.Prelude.{◌≡◌, MatchResult};
-ghost use Rattle.pim_net.specs.Walks.{IsWired, IsLevelled, IsCycleFault, is_new};
+ghost use Rattle.pim_net.specs.inner.DepthFirst.{IsWired, IsLevelled, IsCycleFault, is_new};
 
 use crate::driver::Driver;
 use crate::mark::Mark;

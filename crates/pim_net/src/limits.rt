@@ -1,5 +1,14 @@
-/// Signals are numbered below this.
+/// The most signals that a netlist has: their numbers are below this.
 pub const MAX_SIGNALS: u32 = 1_048_576;
 
 /// The most outputs that a netlist has.
 pub const MAX_OUTPUTS: u32 = 1_048_576;
+
+/// A draft has fewer equations than this, 2^28.
+pub const MAX_EQUATIONS: u32 = 268_435_456;
+
+/// A cover has fewer columns than this, 2^28.
+pub const MAX_COLUMNS: u32 = 268_435_456;
+
+/// The most rows that a cover has, 2^28.
+pub const MAX_ROWS: u32 = 268_435_456;

@@ -1,4 +1,4 @@
-/// How far a walk has come with an equation.
+/// How far the search has come with an equation.
 #[derive(Clone, Copy, Debug, PartialEq, Eq)]
 pub(crate) enum Mark {
     /// It was not come to.
@@ -9,7 +9,7 @@ pub(crate) enum Mark {
     Deep(u32),
 }
 
-/// An equation on the trail of a walk.
+/// An equation on the trail of the search.
 #[derive(Clone, Copy, Debug, PartialEq, Eq)]
 pub(crate) struct Frame {
     /// The number of the equation.
@@ -20,7 +20,7 @@ pub(crate) struct Frame {
     pub(crate) depth: u32,
 }
 
-/// What a walk meets next in an equation.
+/// What the search meets next in an equation.
 #[derive(Clone, Copy, Debug, PartialEq, Eq)]
 pub(crate) enum Step {
     /// All columns have a depth.

@@ -1,7 +1,9 @@
 ghost use Rattle.std.specs.Prelude.{◌≡◌, ◌<◌, ◌^◌, ◌++◌, [], All, None, Some, ℕ, if◌then◌else◌, length, vec_len, slice_index_or, slice_set, MatchResult};
-ghost use Rattle.pim_net.specs.Drivers.{is_nobody, driven, driver};
-ghost use Rattle.pim_net.specs.Tables.{drivers_of};
-ghost use Rattle.pim_net.specs.Faults.{first_repeat, IsTwice};
+ghost use Rattle.pim_net.specs.Drivers.{driven};
+ghost use Rattle.pim_net.specs.inner.Drivers.{is_nobody, driver};
+ghost use Rattle.pim_net.specs.inner.Tables.{drivers_of};
+ghost use Rattle.pim_net.specs.Faults.{first_repeat};
+ghost use Rattle.pim_net.specs.inner.Judged.{IsTwice};
 ghost use Rattle.pim_net.specs.declared.driver.Driver.TheVariants.{Nobody};
 
 use crate::driver::Driver;
@@ -40,7 +42,7 @@ pub(crate) fn drivers(
     Ok(table)
 }
 
-/// Gives a signal its driver, and says whether it had none.
+/// Gives a signal its driver, and tells whether it had none.
 fn claim(table: &mut Vec<Driver>, sig: u32, driver: Driver) -> bool
     requires { sig < vec_len table.old }
     ensures free { result ≡ is_nobody (slice_index_or table.old.items sig Nobody) }

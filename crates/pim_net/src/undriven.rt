@@ -1,6 +1,7 @@
 ghost use Rattle.std.specs.Prelude.{◌≡◌, ◌<◌, All, length, find};
-ghost use Rattle.pim_net.specs.Drivers.{is_nobody, read};
-ghost use Rattle.pim_net.specs.Tables.{drivers_of};
+ghost use Rattle.pim_net.specs.Drivers.{read};
+ghost use Rattle.pim_net.specs.inner.Drivers.{is_nobody};
+ghost use Rattle.pim_net.specs.inner.Tables.{drivers_of};
 
 use crate::driver::Driver;
 use crate::{Equation, OutRef};

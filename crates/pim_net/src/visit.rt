@@ -1,6 +1,6 @@
 ghost use Rattle.std.specs.Prelude.{◌≡◌, ◌<◌, ◌≤◌, [], ◌∷◌, length, IfOk, IfErr, reverse};
 ghost use Rattle.pim_net.specs.Faults.{back_to};
-ghost use Rattle.pim_net.specs.Walks.{ins, sig, mark, EachKnown, IsWired, IsStep, IsMarked, IsVisited, IsRound, trail_sigs};
+ghost use Rattle.pim_net.specs.inner.DepthFirst.{ins, sig, mark, EachKnown, IsWired, IsStep, IsMarked, IsVisited, IsRound, trail_sigs};
 ghost use Rattle.pim_net.specs.declared.mark.Mark.TheVariants.{New};
 
 use crate::driver::Driver;
@@ -9,8 +9,8 @@ use crate::{Equation, NetFault, Signals};
 use pim_io::NoMemory;
 use std::alloc::Global;
 
-/// Walks from an equation that was not come to, depth first, until it has a depth, or until the walk comes round to its
-/// own trail. The path is empty before, and after a walk that was done.
+/// Searches depth first from an equation that was not come to, until it has a depth, or until the search comes round to
+/// its own trail. The path is empty before, and after a search that was done.
 pub(crate) fn visit(
     alloc: Global,
     equations: &[Equation],
@@ -93,7 +93,7 @@ fn trail_back(
     Ok(Signals::new(list))
 }
 
-/// What a walk meets next at a frame.
+/// What the search meets next at a frame.
 fn next(equations: &[Equation], table: &[Driver], marks: &[Mark], at: Frame) -> Step
     requires wired { IsWired equations.now table.now }
     requires sized { length marks.now ≡ length equations.now }

@@ -3,3 +3,4 @@ pub mod Ready
 pub mod Runs
 pub mod Sound
 pub mod Whole
+mod Examples

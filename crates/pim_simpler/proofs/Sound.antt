@@ -7,6 +7,7 @@ use Rattle.pim_isa.specs.declared.instr.Ins.{Ins}
 use Rattle.pim_isa.specs.declared.instr.Ins.TheVariants as ins
 use Rattle.pim_isa.specs.declared.instr.Instr.{Instr}
 use Rattle.pim_isa.specs.declared.instr.Instr.TheVariants as instr
+use Rattle.pim_isa.specs.declared.draft.TheConstants.{MAX_PORTS, MAX_INSTRS}
 use Rattle.pim_isa.specs.Programs.{PortsView}
 use Rattle.pim_isa.specs.Touches.{operands}
 use Rattle.pim_isa.specs.Validity.{has, leaves, rises_above, is_rising, instr_fault, first_instr_fault, bad_input, bad_output, fault_of}
@@ -218,13 +219,13 @@ pub length-wide : (inputs : ℕ) (gs : List Gate) → length (init_of inputs gs 
 length-wide inputs [] = omega arith
 length-wide inputs (g ∷ gs) = omega (arith, length-gate_instrs inputs inputs (g ∷ gs))
 
-pub few-ports : (n : NorView) (ports : PortsView) → IsNetwork n → length ports.inputs ≡ n.inputs → length (wide n ports).inputs + length (wide n ports).outputs < 2 ^ 28
+pub few-ports : (n : NorView) (ports : PortsView) → IsNetwork n → length ports.inputs ≡ n.inputs → length (wide n ports).inputs + length (wide n ports).outputs ≤ MAX_PORTS
 few-ports n ports net e =
     let few : n.inputs ≤ 1048576 = net.inputs_fit in
     let outs : length n.outs ≤ 1048576 = net.outs_fit in
     omega (arith, length-input_ports 0 ports.inputs, length-output_ports n.inputs n.outs ports.outputs)
 
-pub few-instrs : (n : NorView) (ports : PortsView) → IsNetwork n → length (wide n ports).instrs < 2 ^ 28
+pub few-instrs : (n : NorView) (ports : PortsView) → IsNetwork n → length (wide n ports).instrs ≤ MAX_INSTRS
 few-instrs n ports net =
     let small : length n.gates ≤ 3145730 = net.gates_fit in
     omega (arith, length-wide n.inputs n.gates, count_by-le-length is_nor n.gates)

@@ -1,5 +1,5 @@
 use Rattle.std.proofs.Common.{◌≡◌, ◌+◌, [], sym, ap, ◌∙◌, arith}
-use Rattle.pim_io.specs.Lines.{line_of, lines_left}
+use Rattle.pim_io.specs.Lines.{line_view, lines_left}
 use Rattle.pim_aiger.specs.SymbolTable.{then_names, with_line, symbols_of, no_names}
 use Rattle.pim_aiger.proofs.FirstLine.{first_line_starts, stays_within}
 use Rattle.pim_aiger.proofs.Symbols.{line_added}
@@ -7,7 +7,7 @@ use Rattle.pim_aiger.proofs.names.names_at.Goals as goal
 
 pub overflow_add-place : goal.overflow_add-place
 overflow_add-place c =
-    omega (arith, first_line_starts c.loop-line.scan.number c.loop-line.scan.start [] c.loop-line.scan.rest (line_of c.in-Some.line) (lines_left c.line.new.self) c.in-Some.ensures.lines, c.loop-line.invariant.within)
+    omega (arith, first_line_starts c.loop-line.scan.number c.loop-line.scan.start [] c.loop-line.scan.rest (line_view c.in-Some.line) (lines_left c.line.new.self) c.in-Some.ensures.lines, c.loop-line.invariant.within)
 
 pub loop-line-preserved : goal.loop-line-preserved
 loop-line-preserved c =
@@ -21,5 +21,5 @@ loop-line-preserved c =
     record {
       exact = sym (line_added header (place + line.start) text names others c.add.new.self (sym c.if-is_comment.ensures) (sym c.if-is_empty.ensures) c.in_ok-add.ensures.exact) ∙ so_far;
       sized = c.in_ok-add.ensures.sized;
-      within = stays_within place 536870912 c.loop-line.scan c.line.new.self (line_of line) c.loop-line.invariant.within c.in-Some.ensures.lines c.in-Some.ensures.after;
+      within = stays_within place 536870912 c.loop-line.scan c.line.new.self (line_view line) c.loop-line.invariant.within c.in-Some.ensures.lines c.in-Some.ensures.after;
     }

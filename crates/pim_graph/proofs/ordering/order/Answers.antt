@@ -1,10 +1,11 @@
-use Rattle.std.proofs.Common.{◌≡◌, ℕ, List, [], fold, slice_index, ap, subst, sym, ◌∙◌, Vec, Global}
+use Rattle.std.proofs.Common.{◌≡◌, ◌+◌, ◌<◌, ℕ, true, All, List, [], fold, drop, get_or, length, slice_index, ap, subst, sym, ◌∙◌, arith, Vec, Global}
 use Rattle.std.proofs.lemmas.Result.{IfOk-weaker}
-use Rattle.pim_graph.specs.Graphs.{kids_of}
-use Rattle.pim_graph.specs.Orders.{visited, order}
-use Rattle.pim_graph.specs.Peaks.{IsPlaced}
+use Rattle.pim_graph.specs.Graphs.{has, kids_of}
+use Rattle.pim_graph.specs.Orders.{IsReached, visited, order}
+use Rattle.pim_graph.specs.Peaks.{IsPlaced, needed}
 use Rattle.pim_graph.specs.Usages.{falling, usages}
 use Rattle.pim_graph.proofs.Orderings.{order-IsPlaced}
+use Rattle.pim_graph.proofs.Reaching.{order_reached, order_complete, order_needs}
 use Rattle.pim_graph.proofs.ordering.order.Goals as goal
 
 pub returns-clause-order : goal.returns-clause-order
@@ -23,3 +24,21 @@ returns-clause-placed c =
     let g = c.args.graph.now in
     let P : List ℕ → Type 0 = IsPlaced g in
     IfOk-weaker c.walk.result _ _ (λ (out : Vec ℕ Global) e. subst P (sym e) (order-IsPlaced g c.roots.ensures.sound)) (returns-clause-order c)
+
+pub returns-clause-reached : goal.returns-clause-reached
+returns-clause-reached c =
+    let g = c.args.graph.now in
+    let P : List ℕ → Type 0 = All (IsReached g) in
+    IfOk-weaker c.walk.result _ _ (λ (out : Vec ℕ Global) e. subst P (sym e) (order_reached g)) (returns-clause-order c)
+
+pub returns-clause-complete : goal.returns-clause-complete
+returns-clause-complete c =
+    let g = c.args.graph.now in
+    let P : List ℕ → Type 0 = λ xs. (x : ℕ) → IsReached g x → has xs x ≡ true in
+    IfOk-weaker c.walk.result _ _ (λ (out : Vec ℕ Global) e. subst P (sym e) (order_complete g c.roots.ensures.sound)) (returns-clause-order c)
+
+pub returns-clause-needed : goal.returns-clause-needed
+returns-clause-needed c =
+    let g = c.args.graph.now in
+    let P : List ℕ → Type 0 = λ xs. (p : ℕ) → p < length xs → needed g (drop (p + 1) xs) (get_or xs p 0) ≡ true in
+    IfOk-weaker c.walk.result _ _ (λ (out : Vec ℕ Global) e. λ p l. subst P (sym e) (order_needs g c.roots.ensures.sound) p (omega (arith, out.ok.0))) (returns-clause-order c)

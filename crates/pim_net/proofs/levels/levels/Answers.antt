@@ -1,7 +1,7 @@
 use Rattle.std.proofs.Common.{◌≡◌, ◌<◌, ◌≤◌, [], List, length, replicate, ap, sym, ◌∙◌, ⊎_elim, subst, arith, rules}
 use Rattle.std.proofs.lemmas.Result.{err_from_is_err_and}
 use Rattle.std.proofs.lemmas.Bool.{cases_lt}
-use Rattle.pim_net.specs.Walks.{mark, is_new, IsMarked}
+use Rattle.pim_net.specs.inner.DepthFirst.{mark, is_new, IsMarked}
 use Rattle.std.proofs.lemmas.List.{get_or_read}
 use Rattle.pim_net.specs.declared.mark.Mark.{Mark}
 use Rattle.pim_net.specs.declared.mark.Mark.TheVariants.{New}

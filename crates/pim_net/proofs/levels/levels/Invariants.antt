@@ -1,5 +1,5 @@
 use Rattle.std.proofs.Common.{◌≡◌, ◌<◌, [], ℕ, false}
-use Rattle.pim_net.specs.Walks.{mark, is_new, IsMarked}
+use Rattle.pim_net.specs.inner.DepthFirst.{mark, is_new, IsMarked}
 use Rattle.pim_net.proofs.levels.levels.Given as goal
 
 abbrev pub invariant-roots : goal.invariant-roots

@@ -1,8 +1,9 @@
 use Rattle.std.proofs.Common.{ℕ, ◌+◌, Option, drop, ap, sym, ◌∙◌}
 use Rattle.std.specs.Prelude.{find}
 use Rattle.std.specs.Option.{option_or}
-use Rattle.pim_net.specs.Drivers.{is_nobody, read}
-use Rattle.pim_net.specs.Tables.{drivers_of}
+use Rattle.pim_net.specs.Drivers.{read}
+use Rattle.pim_net.specs.inner.Drivers.{is_nobody}
+use Rattle.pim_net.specs.inner.Tables.{drivers_of}
 use Rattle.pim_net.proofs.SignalsRead.{read-drop}
 use Rattle.pim_net.proofs.undriven.undriven.Goals as goal
 

@@ -1,7 +1,8 @@
 use Rattle.std.proofs.Common.{◌≡◌, drop, map}
 use Rattle.std.specs.Prelude.{find}
-use Rattle.pim_net.specs.Drivers.{is_nobody, read}
-use Rattle.pim_net.specs.Tables.{drivers_of}
+use Rattle.pim_net.specs.Drivers.{read}
+use Rattle.pim_net.specs.inner.Drivers.{is_nobody}
+use Rattle.pim_net.specs.inner.Tables.{drivers_of}
 use Rattle.pim_net.specs.declared.parts.OutRef.{OutRef}
 use Rattle.pim_net.proofs.undriven.undriven.Given as goal
 

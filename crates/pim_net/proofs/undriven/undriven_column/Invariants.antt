@@ -1,7 +1,7 @@
 use Rattle.std.proofs.Common.{◌≡◌, drop}
 use Rattle.std.specs.Prelude.{find}
-use Rattle.pim_net.specs.Drivers.{is_nobody}
-use Rattle.pim_net.specs.Tables.{drivers_of}
+use Rattle.pim_net.specs.inner.Drivers.{is_nobody}
+use Rattle.pim_net.specs.inner.Tables.{drivers_of}
 use Rattle.pim_net.proofs.undriven.undriven_column.Given as goal
 
 abbrev pub invariant-columns : goal.invariant-columns

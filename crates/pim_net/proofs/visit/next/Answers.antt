@@ -1,5 +1,5 @@
 use Rattle.std.proofs.Common.{◌≡◌, length, get_or, ap, sym, ◌∙◌, arith}
-use Rattle.pim_net.specs.Walks.{ins, marked_depth, depth_mark}
+use Rattle.pim_net.specs.inner.DepthFirst.{ins, marked_depth, depth_mark}
 use Rattle.pim_net.specs.declared.driver.Driver.TheVariants.{Nobody}
 use Rattle.pim_net.proofs.Equations.{ins_read}
 use Rattle.pim_net.proofs.visit.next.Goals as goal

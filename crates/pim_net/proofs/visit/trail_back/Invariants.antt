@@ -1,6 +1,6 @@
 use Rattle.std.proofs.Common.{◌≡◌, ◌++◌, ◌∷◌, vec_len}
 use Rattle.std.specs.Prelude.{reverse}
-use Rattle.pim_net.specs.Walks.{EachKnown, trail_sigs}
+use Rattle.pim_net.specs.inner.DepthFirst.{EachKnown, trail_sigs}
 use Rattle.pim_net.specs.Faults.{back_to}
 use Rattle.pim_net.proofs.Trails.{rest_back}
 use Rattle.pim_net.proofs.visit.trail_back.Given as goal

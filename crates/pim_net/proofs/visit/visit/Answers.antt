@@ -1,9 +1,9 @@
 use Rattle.std.proofs.Common.{◌≡◌, ◌+◌, ◌<◌, ◌≤◌, ◌++◌, ◌-◌, ◌∷◌, [], suc, List, length, set, refl, ap, sym, ◌∙◌, subst, arith, ◌^◌}
 use Rattle.std.specs.Prelude.{reverse, count_by}
 use Rattle.std.proofs.lemmas.List.{reverse-append, nil_from_length, length-reverse, length_push}
-use Rattle.pim_net.specs.Walks.{ins, mark, is_new, column_of, marked_depth, IsTrail, IsMarked}
+use Rattle.pim_net.specs.inner.DepthFirst.{ins, mark, is_new, column_of, marked_depth, IsTrail, IsMarked}
 use Rattle.pim_net.specs.Cycles.{IsCycle}
-use Rattle.pim_net.specs.Tables.{drivers_of}
+use Rattle.pim_net.specs.inner.Tables.{drivers_of}
 use Rattle.pim_net.specs.declared.mark.Mark.TheVariants.{New, Open, Deep}
 use Rattle.pim_net.specs.declared.mark.Frame.{Frame}
 use Rattle.pim_net.proofs.Rounds.{round_is_cycle}

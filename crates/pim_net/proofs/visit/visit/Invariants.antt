@@ -1,6 +1,6 @@
 use Rattle.std.proofs.Common.{◌≡◌, ◌+◌, ◌*◌, ◌-◌, ◌^◌, ◌∷◌, ℕ, false, length}
 use Rattle.std.specs.Prelude.{reverse, count_by}
-use Rattle.pim_net.specs.Walks.{ins, mark, is_new, IsTrail, IsMarked}
+use Rattle.pim_net.specs.inner.DepthFirst.{ins, mark, is_new, IsTrail, IsMarked}
 use Rattle.pim_net.proofs.visit.visit.Given as goal
 
 abbrev pub invariant-walk : goal.invariant-walk

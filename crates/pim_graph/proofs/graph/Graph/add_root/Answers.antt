@@ -1,7 +1,7 @@
 use Rattle.std.proofs.Common.{◌≡◌, ◌<◌, ◌≤◌, false, length, ap, sym, ◌∙◌, refl, subst, arith}
 use Rattle.std.proofs.lemmas.List.{length-map, get_or_read}
 use Rattle.pim_graph.specs.Graphs.{GraphView, has}
-use Rattle.pim_graph.specs.Nodes.{children_of}
+use Rattle.pim_graph.specs.inner.Nodes.{children_of}
 use Rattle.pim_graph.specs.declared.graph.Node.{Node}
 use Rattle.pim_graph.proofs.Wholes.{IsWhole-root, view-root}
 use Rattle.pim_graph.proofs.graph.Graph.add_root.Goals as goal

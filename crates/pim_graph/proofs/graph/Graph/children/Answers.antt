@@ -1,7 +1,7 @@
 use Rattle.std.proofs.Common.{◌<◌, length, ap, arith}
 use Rattle.std.proofs.lemmas.List.{length-map}
 use Rattle.pim_graph.specs.Graphs.{GraphView}
-use Rattle.pim_graph.specs.Nodes.{children_of}
+use Rattle.pim_graph.specs.inner.Nodes.{children_of}
 use Rattle.pim_graph.proofs.Wholes.{children-before}
 use Rattle.pim_graph.proofs.graph.Graph.children.Goals as goal
 

@@ -1,11 +1,11 @@
 use Rattle.std.proofs.Common.{◌≡◌, ℕ, List, Some, None, subst, ap, sym, ◌∙◌, ⊎_elim}
 use Rattle.std.proofs.lemmas.Result.{err_from_is_err_and}
 use Rattle.pim_net.specs.Cycles.{IsCycle}
-use Rattle.pim_net.specs.Faults.{IsRefusal, fault_of}
+use Rattle.pim_net.specs.Faults.{fault_of}
 use Rattle.pim_net.specs.declared.fault.NetFault.{NetFault}
 use Rattle.pim_net.specs.declared.fault.NetFault.TheVariants.{NoMemory}
 use Rattle.pim_net.proofs.Exact.{formed_sound}
-use Rattle.pim_net.specs.Judged.{IsJudged}
+use Rattle.pim_net.specs.inner.Judged.{IsJudged, IsRefusal}
 use Rattle.pim_net.specs.Netlist.{DraftView, IsDraft}
 use Rattle.pim_net.specs.WellFormed.{IsNet, IsWellFormed}
 use Rattle.pim_net.specs.declared.parts.Equation.{Equation}
@@ -33,7 +33,7 @@ returns-clause-checked c =
     net_is d.inputs.items c.as_slice.result.now d.equations.items c.as_slice-2.result.now d.outputs.items c.as_slice-3.result.now d.input_labels d.output_labels c.in_ok-topo.topo.items
     c.as_slice.ensures.value c.as_slice-2.ensures.value c.as_slice-3.ensures.value c.draft.invariant c.in_ok-topo.ensures.judged
 
--- a well-formed draft is refused for want of memory alone
+-- a well-formed draft is refused only when out of memory
 only_memory : (inputs inputs' : List ℕ) (es es' : List Equation) (outputs outputs' : List OutRef) (fault : NetFault) → inputs' ≡ inputs → es' ≡ es → outputs' ≡ outputs → IsWellFormed inputs es outputs → IsRefusal inputs' es' outputs' fault → fault ≡ NoMemory
 only_memory inputs inputs' es es' outputs outputs' fault same_inputs same_es same_outputs formed refusal =
     ⊎_elim

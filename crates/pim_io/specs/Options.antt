@@ -1,0 +1,7 @@
+-- Readings that may give nothing, one after another.
+use Rattle.std.specs.Prelude.{Option, option_and_then}
+
+-- one reading after another: nothing stands where one gives nothing
+infixl 10 ◌>>=◌
+abbrev pub ◌>>=◌ : {A B : Type 0} → Option A → (A → Option B) → Option B
+o >>= f = option_and_then f o

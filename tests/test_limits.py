@@ -1,0 +1,101 @@
+"""Both sides of the limits: what is just small enough is taken, and one more is refused."""
+import inputs
+from program import gives, stops
+
+MOST = 1_048_576
+
+
+def compile_with(pim, netlist, cells=MOST):
+    return pim("compile", "--target", "magic", "--cells", str(cells), stdin=netlist)
+
+
+def ports_alone(inputs, outputs):
+    """The program without instructions whose inputs stand in the first cells, and whose outputs are all the first cell."""
+    lines = ["pim 1", "target magic", f"cells {len(inputs)}"]
+    lines += [f"input {cell} {label}" for cell, label in enumerate(inputs)]
+    lines += [f"output 0 {label}" for label in outputs]
+    return "\n".join(lines + ["cycles 0", "end", ""]).encode()
+
+
+def test_signals_of_blif(pim, folder):
+    """1,048,576 inputs are 1,048,576 signals, and each takes a cell. One more is refused."""
+    names = [f"x{k}" for k in range(MOST)]
+    netlist = (".inputs " + " ".join(names[:-1]) + "\n.inputs " + names[-1] + "\n").encode()
+    gives(compile_with(pim, netlist), ports_alone(names, []))
+    stops(compile_with(pim, netlist + b".inputs y\n"), 7, "too large: signals")
+
+
+def test_signals_of_covers_in_blif(pim, folder):
+    """Covers without rows are signals too. None is an output, so the program is empty. One more is refused."""
+    covers = "".join(f".names x{k}\n" for k in range(MOST)).encode()
+    gives(compile_with(pim, covers, 0), ports_alone([], []))
+    stops(compile_with(pim, covers + b".names y\n", 0), 7, "too large: signals")
+
+
+def test_signals_of_aiger(pim, folder):
+    """1,048,575 variables and the constant are 1,048,576 signals. One variable more is refused, before its line is read."""
+    literals = "".join(f"{2 * k}\n" for k in range(1, MOST)).encode()
+    netlist = b"aag 1048575 1048575 0 0 0\n" + literals
+    gives(compile_with(pim, netlist), ports_alone([f"i{k}" for k in range(MOST - 1)], []))
+    gives(compile_with(pim, b"aig 1048575 1048575 0 0 0\n"), ports_alone([f"i{k}" for k in range(MOST - 1)], []))
+    stops(compile_with(pim, b"aag 1048576 1048576 0 0 0\n" + literals), 7, "too large: signals")
+    stops(compile_with(pim, b"aig 1048576 1048576 0 0 0\n"), 7, "too large: signals")
+
+
+def test_outputs_of_blif(pim, folder):
+    """1,048,576 outputs may all be one signal. One more is refused."""
+    netlist = b".inputs a\n.outputs" + b" a" * MOST + b"\n"
+    gives(compile_with(pim, netlist, 1), ports_alone(["a"], ["a"] * MOST))
+    stops(compile_with(pim, netlist + b".outputs a\n", 1), 7, "too large: outputs")
+
+
+def test_outputs_of_aiger(pim, folder):
+    """1,048,576 outputs may all be one literal. One more is refused, in both forms."""
+    lines = b"2\n" * (MOST + 1)
+    outputs = ports_alone(["i0"], [f"o{k}" for k in range(MOST)])
+    gives(compile_with(pim, b"aag 1 1 0 1048576 0\n2\n" + lines[2:], 1), outputs)
+    gives(compile_with(pim, b"aig 1 1 0 1048576 0\n" + lines[2:], 1), outputs)
+    stops(compile_with(pim, b"aag 1 1 0 1048577 0\n2\n" + lines, 1), 7, "too large: outputs")
+    stops(compile_with(pim, b"aig 1 1 0 1048577 0\n" + lines, 1), 7, "too large: outputs")
+
+
+def test_the_bytes_of_a_name(pim, folder):
+    """A name of 4,096 bytes is taken, in BLIF and as a symbol of AIGER. One byte more is refused."""
+    name = "n" * 4_096
+    program = ports_alone([name], [name])
+    gives(compile_with(pim, f".inputs {name}\n.outputs {name}\n".encode(), 1), program)
+    stops(compile_with(pim, f".inputs {name}n\n".encode(), 1), 7, "too large: name")
+    symbols = f"aag 1 1 0 1 0\n2\n2\ni0 {name}\no0 {name}".encode()
+    gives(compile_with(pim, symbols, 1), program)
+    stops(compile_with(pim, symbols + b"n", 1), 7, "too large: name")
+
+
+def test_the_bytes_of_a_netlist(pim, folder):
+    """67,108,864 bytes are read and judged: a comment alone is no netlist. One more is too large."""
+    stops(compile_with(pim, inputs.most_bytes()), 1, "bad input: blif line 1: syntax")
+    stops(compile_with(pim, inputs.too_many_bytes()), 7, "too large: bytes")
+
+
+def test_the_bytes_of_the_vectors(pim, folder):
+    """Of lines of 101 bytes 664,444 fit into 67,108,864 bytes. The results of the 162 tiles of 4,096 that they fill are written."""
+    path = folder / "wide.pim"
+    path.write_bytes(ports_alone([f"i{k}" for k in range(100)], ["o"]))
+    line = b"1" + b"0" * 99 + b"\n"
+    answer = pim("run", path, stdin=line * 664_445)
+    stops(answer, 7, "too large: bytes", b"1\n" * (162 * 4_096))
+    gives(pim("run", path, stdin=line * 664_444), b"1\n" * 664_444)
+
+
+def test_the_lines_of_vectors(pim, folder):
+    """1,048,576 lines are executed. One more is refused, after the results of the 256 tiles before it."""
+    path = folder / "wire.pim"
+    path.write_bytes(ports_alone(["a"], ["a"]))
+    gives(pim("run", path, stdin=b"1\n" * MOST), b"1\n" * MOST)
+    stops(pim("run", path, stdin=b"1\n" * MOST + b"1\n"), 7, "too large: rows", b"1\n" * MOST)
+
+
+def test_a_program_without_inputs(pim, folder):
+    """The lines of a program without inputs are empty, and each has a result."""
+    path = folder / "one.pim"
+    path.write_bytes(b"pim 1\ntarget magic\ncells 1\noutput 0 f\ncycles 1\ninit 0\nend\n")
+    gives(pim("run", path, stdin=b"\n" * 5_000), b"1\n" * 5_000)
