@@ -1,0 +1,4 @@
+pub mod JudgedLines
+pub mod NextLine
+pub mod WalkStates
+pub mod WalkSteps

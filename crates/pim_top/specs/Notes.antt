@@ -139,7 +139,11 @@ refusal_text (refusal.TooLong origin) = large (codes "bytes")
 refusal_text refusal.WriteFault = codes "write fault"
 refusal_text (refusal.Judged j) = judgement_text j
 
+-- the line of a refusal
+abbrev pub refusal_note : Refusal → List ℕ
+refusal_note r = codes "pim: " ++ (refusal_text r ++ codes "\n")
+
 -- the line of an answer: none where all was done
 abbrev pub note : {Y : Type 0} → Result Y Refusal → List ℕ
 note (Ok y) = []
-note (Err r) = codes "pim: " ++ (refusal_text r ++ codes "\n")
+note (Err r) = refusal_note r

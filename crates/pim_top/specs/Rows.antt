@@ -17,19 +17,18 @@ pub record IsLoaded (load : List ℕ → Result Runner Judgement) (s : Stream) (
   pub is : load file ≡ loaded
 
 -- why no row was executed: of the program's source and of its bytes
-abbrev pub IsUnloaded : {Y : Type 0} → (List ℕ → Result Runner Judgement) → Stream → Result Y Refusal → Type 0
-IsUnloaded load s (Ok y) = ⊥
-IsUnloaded load s (Err NoMemory) = Unit {0}
-IsUnloaded load s (Err (ReadFault Program)) = HasFailed s MAX_PROGRAM
-IsUnloaded load s (Err (TooLong Program)) = IsOverrun s MAX_PROGRAM
-IsUnloaded load s (Err (Judged j)) = IsWanting j ⊎ IsLoaded load s (Err j)
-IsUnloaded load s (Err r) = ⊥
+abbrev pub IsUnloaded : (List ℕ → Result Runner Judgement) → Stream → Refusal → Type 0
+IsUnloaded load s NoMemory = Unit {0}
+IsUnloaded load s (ReadFault Program) = HasFailed s MAX_PROGRAM
+IsUnloaded load s (TooLong Program) = IsOverrun s MAX_PROGRAM
+IsUnloaded load s (Judged j) = IsWanting j ⊎ IsLoaded load s (Err j)
+IsUnloaded load s r = ⊥
 
 -- no byte of the input was taken, and nothing was written
-pub record EndsEarly {Y : Type 0} (load : List ℕ → Result Runner Judgement) (seen : Seen) (result : Result Y Refusal) : Type 0 where
+pub record EndsEarly (load : List ℕ → Result Runner Judgement) (seen : Seen) (r : Refusal) : Type 0 where
   pub input : IsUntouched seen.input
   pub output : IsUntouched seen.output
-  pub why : IsUnloaded load seen.program result
+  pub why : IsUnloaded load seen.program r
 
 -- the program was loaded, and the walk over the lines of the input ended so
 pub record EndsLate {Y : Type 0} (load : List ℕ → Result Runner Judgement) (seen : Seen) (result : Result Y Refusal) : Type 0 where
@@ -39,4 +38,5 @@ pub record EndsLate {Y : Type 0} (load : List ℕ → Result Runner Judgement) (
 
 -- how the command ends, by what loads its program
 abbrev pub RowsEnd : {Y : Type 0} → (List ℕ → Result Runner Judgement) → Seen → Result Y Refusal → Type 0
-RowsEnd load seen result = EndsEarly load seen result ⊎ EndsLate load seen result
+RowsEnd load seen (Ok y) = EndsLate load seen (Ok y)
+RowsEnd load seen (Err r) = EndsEarly load seen r ⊎ EndsLate {Y = Unit {0}} load seen (Err r)

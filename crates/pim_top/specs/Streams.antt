@@ -33,9 +33,10 @@ pub record IsRead (s : Stream) (limit : ℕ) (bytes : List ℕ) : Type 0 where
   pub fits : length bytes ≤ limit
   pub steady : s.faults_now ≡ s.faults
 
--- one byte more than the limit was taken of a source
-abbrev pub IsOverrun : Stream → ℕ → Type 0
-IsOverrun s limit = GaveFirst s.before s.now (limit + 1)
+-- one byte more than the limit was taken of a source, and no fault was counted
+pub record IsOverrun (s : Stream) (limit : ℕ) : Type 0 where
+  pub more : GaveFirst s.before s.now (limit + 1)
+  pub steady : s.faults_now ≡ s.faults
 
 -- a source failed and counted it, after it gave some bytes within the limit
 pub record HasFailed (s : Stream) (limit : ℕ) : Type 0 where

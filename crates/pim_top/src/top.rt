@@ -7,7 +7,7 @@ ghost use Rattle.pim_words.specs.declared.command.Command.{Command};
 ghost use Rattle.pim_top.specs.Answers.{IsFine};
 ghost use Rattle.pim_top.specs.Calls.{FileIsFine, HasEnded, IsCalm, IsDecided, IsDone, IsFileDecided, IsIdle, Ends, IsNoted, Obeys};
 ghost use Rattle.pim_io.specs.Outside.{Rose};
-ghost use Rattle.pim_top.specs.Notes.{note};
+ghost use Rattle.pim_top.specs.Notes.{refusal_note};
 ghost use Rattle.pim_top.specs.Reads.{IsApart, Tells, executes_rows, reads, streams};
 ghost use Rattle.pim_top.specs.Statuses.{answer_status};
 ghost use Rattle.pim_top.specs.Streams.{IsUntouched, seen, stream};
@@ -97,7 +97,7 @@ pub fn pim<P: Source, S: Source, K: Sink, E: Sink>(
 /// Ends a call for whose words there is no memory: writes the note of that, and gives its status.
 pub fn no_memory<E: Sink>(notes: &mut E) -> Status
     ensures status { result ≡ Status.NoMemory }
-    ensures noted { IsNoted (stream E.taken E.faults notes.old notes.new) (note (Err Refusal.NoMemory)) }
+    ensures noted { IsNoted (stream E.taken E.faults notes.old notes.new) (refusal_note Refusal.NoMemory) }
 {
     let answer = Err(Refusal::NoMemory);
     tell(&answer, notes);

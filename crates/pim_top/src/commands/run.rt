@@ -41,7 +41,7 @@ pub fn run<P: Source, S: Source, K: Sink>(
 /// The program that a source has.
 fn program_of<P: Source>(alloc: Global, source: &mut P) -> Result<Program, Refusal>
     ensures read { IfOk result (IsProgramRead (stream P.left P.faults source.old source.new)) }
-    ensures refused { IfErr result (λ r. (fill : FillWord) → IsUnloaded (run_of fill) (stream P.left P.faults source.old source.new) (Err r)) }
+    ensures refused { IfErr result (λ r. (fill : FillWord) → IsUnloaded (run_of fill) (stream P.left P.faults source.old source.new) r) }
 {
     let bytes = bytes_of(alloc, source, Origin::Program, Some(MAX_PROGRAM))?;
     match parse(alloc, bytes.as_slice()) {
