@@ -59,6 +59,28 @@ How to read them:
 | `[]`, `x ∷ xs`, `++` | the empty list; x before the list xs; one list behind another |
 | `λ x. ..` | the function that gives .. for x |
 | `e.part`, `p.0`, `p.1` | a part of a record; the first and the second of a pair |
+| `Nor t ins`, `instr.Nor t ins` | a variant of a type with its fields; with a word in front where two types have one of that name |
+| `a - b`, `a / b` | for natural numbers: 0 if b is greater; rounded down |
+| `⊥`, `Unit {{0}}` | what never holds; what always holds |
+
+The words of the library that they use:
+
+| word | meaning |
+|---|---|
+| `codes "text"` | the bytes of the text |
+| `nat_lt a b`, `nat_le a b`, `bytes_eq a b` | a is below b, a is at most b, a and b are the same bytes, as truth values |
+| `take n xs`, `drop n xs` | the first n items, and all but these |
+| `slice_get xs i`, `slice_index_or xs i d`, `slice_index xs i` | item i, from 0, if it is there; else d; else 0 |
+| `slice_set xs i x` | the list with x in place of item i |
+| `map f xs`, `flat_map f xs` | f of each item; the lists that f gives, one behind another |
+| `find p xs`, `position p xs` | the first item that passes p, if there is one; its place |
+| `prefix_len p xs`, `suffix_len p xs`, `before_first p xs` | how many items pass p at the front, and at the end; what stands before the first that passes |
+| `list_any p xs`, `list_all p xs` | an item passes p, each item does, as truth values |
+| `All P xs`, `Contains xs x` | P holds of each item; x is one of the items |
+| `sum_by f xs`, `count_by p xs` | the sum of f of the items; how many pass p |
+| `replicate n x`, `range_with_len a n` | n times x; the n numbers from a on |
+| `option_map f o`, `option_and_then f o` | f of what o has, where f gives a value, or maybe one |
+| `option_or o other`, `unwrap_or o d`, `ok_or o e` | o if it has something, else the other option; else d; else the fault e |
 
 Bytes are numbers below 256. A type of the code is seen as the record of its parts, or by its variants; those that the definitions
 speak of stand at the head of each section. The words `pub`, `abbrev` and `unfoldable` of the files are left out.

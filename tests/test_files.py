@@ -24,7 +24,7 @@ def test_a_program_of_many_reads(pim, folder):
 
 
 def test_a_program_from_a_named_pipe(pim, folder):
-    """A named pipe can be opened and read once only. The program comes through it in three pieces."""
+    """A named pipe gives the program in three pieces, and nothing that was read comes again."""
     path = folder / "pipe"
     os.mkfifo(path)
     program = long_program(20_000)

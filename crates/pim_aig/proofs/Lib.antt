@@ -4,6 +4,7 @@ pub mod CoverValues
 pub mod EquationValues
 pub mod FlatValues
 pub mod Linking
+pub mod NodeValues
 pub mod Rows
 pub mod SignalValues
 pub mod TableSteps

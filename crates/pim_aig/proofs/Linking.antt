@@ -9,6 +9,7 @@ use Rattle.pim_aig.specs.Graph.{AigView, nodes}
 use Rattle.pim_aig.specs.Literals.{plain}
 use Rattle.pim_aig.specs.declared.literal.Lit.{Lit}
 use Rattle.pim_aig.specs.declared.graph.And.{And}
+use Rattle.pim_aig.specs.declared.graph.TheConstants.{MAX_ANDS}
 
 -- no AND node is lost
 pub chain_from-le : (inputs : ℕ) (ands : List And) (last : Option Lit) (ls : List Lit) → length ands ≤ length (chain_from inputs ands last ls).ands
@@ -22,13 +23,13 @@ chain_from-le inputs ands (Some c) (l ∷ ls) =
     omega arith
 
 -- where there is no room for the next AND node, the chain is too large
-pub link_large : (inputs : ℕ) (ands : List And) (last : Option Lit) (c l : Lit) (rest : List Lit) → last ≡ Some c → length ands ≡ 1048576 → 1048576 < length (chain_from inputs ands last (l ∷ rest)).ands
+pub link_large : (inputs : ℕ) (ands : List And) (last : Option Lit) (c l : Lit) (rest : List Lit) → last ≡ Some c → length ands ≡ MAX_ANDS → MAX_ANDS < length (chain_from inputs ands last (l ∷ rest)).ands
 link_large inputs ands last c l rest e full =
-    let P : Option Lit → Type 0 = λ o. 1048576 < length (chain_from inputs ands o (l ∷ rest)).ands in
+    let P : Option Lit → Type 0 = λ o. MAX_ANDS < length (chain_from inputs ands o (l ∷ rest)).ands in
     let more : List And = ands ++ record { x = c; y = l } ∷ [] in
     let len : length more ≡ length ands + 1 = length_push ands (record { x = c; y = l }) in
     let grown : length more ≤ length (chain_from inputs more (Some (plain (1 + inputs + length ands))) rest).ands = chain_from-le inputs more (Some (plain (1 + inputs + length ands))) rest in
-    let here : 1048576 < length (chain_from inputs more (Some (plain (1 + inputs + length ands))) rest).ands = omega arith in
+    let here : MAX_ANDS < length (chain_from inputs more (Some (plain (1 + inputs + length ands))) rest).ands = omega arith in
     subst P (sym e) here
 
 -- the next AND node goes on with the chain

@@ -6,7 +6,8 @@ use Rattle.std.proofs.lemmas.Bool.Decides.{nat_tests}
 use Rattle.std.proofs.lemmas.List.{drop_more, get_or-set_same, get_or-set_other}
 use Rattle.pim_net.specs.Covers.{CoverView}
 use Rattle.pim_net.specs.declared.parts.Equation.{Equation}
-use Rattle.pim_aig.specs.Chains.{Built, cover_from, literals_of, rows_from}
+use Rattle.pim_aig.specs.Chains.{Built, cover_from, rows_from}
+use Rattle.pim_aig.specs.inner.Tables.{literals_of}
 use Rattle.pim_aig.specs.Faults.{Says}
 use Rattle.pim_aig.specs.Flat.{Flattened, put, inputs_from, equation_from, equations_from}
 use Rattle.pim_aig.specs.declared.fault.FlatFault.{FlatFault}

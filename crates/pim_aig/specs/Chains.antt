@@ -1,5 +1,5 @@
 -- How covers become AND nodes. No node is shared and none is folded.
-use Rattle.std.specs.Prelude.{ℕ, ◌+◌, if◌then◌else◌, List, [], ◌∷◌, ◌++◌, length, Option, Some, None, slice_index_or}
+use Rattle.std.specs.Prelude.{ℕ, ◌+◌, if◌then◌else◌, List, [], ◌∷◌, ◌++◌, length, Option, Some, None}
 use Rattle.pim_net.specs.Covers.{CoverView}
 use Rattle.pim_net.specs.declared.cover.Bit3.{Bit3}
 use Rattle.pim_net.specs.declared.cover.Bit3.TheVariants.{Zero, One, Any}
@@ -58,7 +58,3 @@ cover_from inputs lits ands cover =
       ands = joined.ands;
       lit = if cover.phase then complement joined.lit else complement (complement joined.lit);
     }
-
--- the literals of signals by a table, and false for a signal that the table lacks
-abbrev pub literals_of : List Lit → ℕ → Lit
-literals_of table s = slice_index_or table s (record { 0 = 0 })

@@ -1,7 +1,8 @@
 -- The and-inverter graph as lists: node 0 is false, nodes 1 to `inputs` are the inputs, and the AND nodes follow.
-use Rattle.std.specs.Prelude.{◌≡◌, ℕ, ◌+◌, ◌*◌, ◌<◌, ◌≤◌, List, length, slice_index_or}
+use Rattle.std.specs.Prelude.{ℕ, ◌+◌, ◌*◌, ◌<◌, ◌≤◌, List, length, slice_index_or}
 use Rattle.pim_aig.specs.declared.literal.Lit.{Lit}
 use Rattle.pim_aig.specs.declared.graph.And.{And}
+use Rattle.pim_aig.specs.declared.graph.TheConstants.{MAX_ANDS, MAX_INPUTS, MAX_OUTPUTS}
 
 -- what contracts see of an `Aig`
 pub record AigView : Type 0 where
@@ -19,15 +20,9 @@ IsOfFirst n l = l.0 < 2 * n
 
 -- the operands of each AND node are of nodes before it, each output's node is there, and the limits are kept
 pub record IsAig (g : AigView) : Type 0 where
-  pub inputs_fit : g.inputs ≤ 1048576
-  pub ands_fit : length g.ands ≤ 1048576
-  pub outputs_fit : length g.outputs ≤ 1048576
+  pub inputs_fit : g.inputs ≤ MAX_INPUTS
+  pub ands_fit : length g.ands ≤ MAX_ANDS
+  pub outputs_fit : length g.outputs ≤ MAX_OUTPUTS
   pub x_before : (k : ℕ) (d : And) → k < length g.ands → IsOfFirst (1 + g.inputs + k) (slice_index_or g.ands k d).x
   pub y_before : (k : ℕ) (d : And) → k < length g.ands → IsOfFirst (1 + g.inputs + k) (slice_index_or g.ands k d).y
   pub outputs_there : (k : ℕ) (d : Lit) → k < length g.outputs → IsOfFirst (nodes g) (slice_index_or g.outputs k d)
-
--- the graph has the same inputs and outputs, and no AND node is lost
-pub record Grows (old new : AigView) : Type 0 where
-  pub inputs_stay : new.inputs ≡ old.inputs
-  pub outputs_stay : new.outputs ≡ old.outputs
-  pub no_fewer : length old.ands ≤ length new.ands

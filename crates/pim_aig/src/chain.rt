@@ -1,7 +1,8 @@
 ghost use Rattle.std.specs.Prelude.{◌≡◌, ◌∷◌, ◌+◌, List, All, Some, length, IfErr, IfOk, IfSome};
 ghost use Rattle.pim_aig.specs.Chains.{chain, chain_from};
 ghost use Rattle.pim_aig.specs.Faults.{Says};
-ghost use Rattle.pim_aig.specs.Graph.{Grows, IsOfFirst, nodes};
+ghost use Rattle.pim_aig.specs.Graph.{IsOfFirst, nodes};
+ghost use Rattle.pim_aig.specs.inner.Growing.{Grows};
 
 use crate::{Aig, FlatFault, Lit, MAX_ANDS};
 

@@ -1,7 +1,9 @@
 ghost use Rattle.std.specs.Prelude.{◌≡◌, ◌<◌, ◌≤◌, [], List, All, length, IfErr, IfOk};
-ghost use Rattle.pim_aig.specs.Chains.{chain, cover_from, literals_of, row_literals, rows_from};
+ghost use Rattle.pim_aig.specs.Chains.{chain, cover_from, row_literals, rows_from};
+ghost use Rattle.pim_aig.specs.inner.Tables.{literals_of};
 ghost use Rattle.pim_aig.specs.Faults.{Says};
-ghost use Rattle.pim_aig.specs.Graph.{Grows, IsOfFirst, nodes};
+ghost use Rattle.pim_aig.specs.Graph.{IsOfFirst, nodes};
+ghost use Rattle.pim_aig.specs.inner.Growing.{Grows};
 
 use crate::chain::{chain, link};
 use crate::{Aig, FlatFault, Lit};

@@ -2,11 +2,13 @@ ghost use Rattle.std.specs.Prelude.{◌≡◌, ◌+◌, ◌<◌, ◌≤◌, ◌+
 ghost use Rattle.pim_net.specs.Netlist.{draft_of};
 ghost use Rattle.pim_net.specs.Values.{outs};
 ghost use Rattle.pim_net.specs.WellFormed.{IsNet};
-ghost use Rattle.pim_aig.specs.Chains.{literals_of};
+ghost use Rattle.pim_aig.specs.inner.Tables.{literals_of};
 ghost use Rattle.pim_aig.specs.Faults.{Says};
 ghost use Rattle.pim_aig.specs.Flat.{ands, equation_from, equations_from, flat, inputs_from, no_literals, output_literal};
-ghost use Rattle.pim_aig.specs.Graph.{Grows, IsOfFirst, nodes};
+ghost use Rattle.pim_aig.specs.Graph.{IsOfFirst, nodes};
+ghost use Rattle.pim_aig.specs.inner.Growing.{Grows};
 ghost use Rattle.pim_aig.specs.Values.{aval};
+ghost use Rattle.pim_aig.specs.declared.graph.TheConstants.{MAX_ANDS, MAX_INPUTS, MAX_OUTPUTS};
 
 use crate::cover::cover_literal;
 use crate::{Aig, FlatFault, Lit};
@@ -17,7 +19,7 @@ use std::alloc::Global;
 /// The table of the signals' literals before any equation: inputs have the plain literals of their nodes.
 fn input_table(alloc: Global, signals: usize, inputs: &[u32]) -> Result<Vec<Lit>, NoMemory>
     requires below { All (λ s. s < signals) inputs.now }
-    requires few { length inputs.now ≤ 1048576 }
+    requires few { length inputs.now ≤ MAX_INPUTS }
     ensures made { IfOk result (λ t. literals_of t.items ≡ inputs_from no_literals 0 inputs.now) }
     ensures len { IfOk result (λ t. vec_len t ≡ signals) }
     ensures there { IfOk result (λ t. All (IsOfFirst (1 + length inputs.now)) t.items) }
@@ -89,7 +91,7 @@ fn output_literal(table: &[Lit], out: OutRef) -> Lit
 fn outputs(aig: &mut Aig, table: &[Lit], outputs: &[OutRef]) -> Result<(), NoMemory>
     requires below { All (λ o. o.sig < length table.now) outputs.now }
     requires there { All (IsOfFirst (nodes aig.old)) table.now }
-    requires few { length aig.old.outputs + length outputs.now ≤ 1048576 }
+    requires few { length aig.old.outputs + length outputs.now ≤ MAX_OUTPUTS }
     ensures { OnOk result (aig.new ≡ record aig.old {
       outputs = aig.old.outputs ++ map (output_literal (literals_of table.now)) outputs.now;
     }) }
@@ -107,7 +109,8 @@ pub fn flatten(alloc: Global, net: &Net) -> Result<Aig, FlatFault>
     ensures flat { IfOk result (λ aig. aig ≡ flat net.now) }
     ensures values { IfOk result (λ aig. (bits : List Bool) → length bits ≡ length net.now.inputs
         → map (aval aig bits) aig.outputs ≡ outs net.now bits) }
-    ensures accepted { OnOk result (ands net.now ≤ 1048576) }
+    ensures counted { OnOk result (length (flat net.now).ands ≡ ands net.now) }
+    ensures accepted { OnOk result (ands net.now ≤ MAX_ANDS) }
     ensures fault { IfErr result (λ fault. Says fault (ands net.now)) }
 {
     net.has_values();

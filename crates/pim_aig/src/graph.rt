@@ -1,6 +1,8 @@
 ghost use Rattle.std.specs.Prelude.{◌≡◌, ◌+◌, ◌<◌, ◌≤◌, ◌∷◌, ◌++◌, [], length, IfOk, OnErr};
 ghost use Rattle.pim_aig.specs.Graph.{IsAig, IsOfFirst, nodes};
+ghost use Rattle.pim_aig.specs.Laws.{ValueLaws};
 ghost use Rattle.pim_aig.specs.Literals.{plain};
+ghost use Rattle.pim_aig.specs.declared.graph.TheConstants.{MAX_ANDS, MAX_INPUTS, MAX_OUTPUTS};
 
 use crate::Lit;
 use pim_io::NoMemory;
@@ -9,10 +11,12 @@ use std::marker::Model;
 
 /// The most AND nodes that a graph has.
 pub const MAX_ANDS: u32 = 1_048_576;
-/// The most inputs that a graph has.
-pub const MAX_INPUTS: u32 = 1_048_576;
-/// The most outputs that a graph has.
-pub const MAX_OUTPUTS: u32 = 1_048_576;
+
+/// The most inputs that a graph has: each is a signal of a netlist.
+pub const MAX_INPUTS: u32 = pim_net::MAX_SIGNALS;
+
+/// The most outputs that a graph has: those of a netlist.
+pub const MAX_OUTPUTS: u32 = pim_net::MAX_OUTPUTS;
 
 /// An AND node: the literals of its two operands, in their order.
 #[derive(Clone, Copy, Debug, PartialEq, Eq)]
@@ -42,7 +46,7 @@ impl Model for Aig {
 impl Aig {
     /// A graph of inputs alone.
     pub fn new(alloc: Global, inputs: u32) -> Aig
-        requires { inputs ≤ 1048576 }
+        requires { inputs ≤ MAX_INPUTS }
         ensures { result ≡ record { inputs = inputs; ands = []; outputs = [] } }
     {
         Aig {
@@ -56,7 +60,7 @@ impl Aig {
     pub fn and(&mut self, x: Lit, y: Lit) -> Result<Lit, NoMemory>
         requires x_there { IsOfFirst (nodes self.old) x }
         requires y_there { IsOfFirst (nodes self.old) y }
-        requires room { length self.old.ands < 1048576 }
+        requires room { length self.old.ands < MAX_ANDS }
         ensures literal { IfOk result (λ l. l ≡ plain (nodes self.old)) }
         ensures grown { IfOk result (λ _. self.new ≡ record self.old { ands = self.old.ands ++ record { x = x; y = y } ∷ [] }) }
         ensures kept { OnErr result (self.new ≡ self.old) }
@@ -69,7 +73,7 @@ impl Aig {
     /// Appends an output.
     pub fn add_output(&mut self, out: Lit) -> Result<(), NoMemory>
         requires there { IsOfFirst (nodes self.old) out }
-        requires room { length self.old.outputs < 1048576 }
+        requires room { length self.old.outputs < MAX_OUTPUTS }
         ensures grown { IfOk result (λ _. self.new ≡ record self.old { outputs = self.old.outputs ++ out ∷ [] }) }
         ensures kept { OnErr result (self.new ≡ self.old) }
     {
@@ -99,5 +103,13 @@ impl Aig {
         ensures sound { IsAig self.now }
     {
         self.outputs.as_slice()
+    }
+
+    /// The law of values, for those who read a graph: it computes nothing. At each assignment of the inputs node 0 is false,
+    /// an input has its bit, an AND node is true where both of its operands are, and a complement where its literal is not.
+    pub fn has_values(&self)
+        ensures { ValueLaws self.now }
+    {
+        let _ = &self.ands;
     }
 }

@@ -1,13 +1,16 @@
 -- The order of a graph holds exactly the gates that the roots reach, and each is needed behind its place.
 use Rattle.std.proofs.Common.{◌≡◌, ℕ, ◌+◌, ◌-◌, ◌<◌, ◌≤◌, zero, suc, true, eqb, List, [], ◌∷◌, ◌++◌, length, get_or, take, drop, fold, slice_index, All, inl, inr, refl, sym, ◌∙◌, ap, subst, arith}
-use Rattle.std.proofs.lemmas.Bool.{cases_lt, false≢true, cond_both, or_cases, or_left, or_right, eqb-true}
+use Rattle.std.proofs.lemmas.Bool.{cases_lt, false≢true, cond_both, or_cases, or_left, or_right, eqb-true, eq-eqb}
 use Rattle.std.proofs.lemmas.List.{get_or-drop, get_or-take, length-drop, length-take, take-append-drop}
+use Rattle.std.specs.List.{list_any}
 use Rattle.std.proofs.lemmas.List.Elements.{All-push}
+use Rattle.std.proofs.lemmas.Map.Steps.{le-length_from_below}
 use Rattle.pim_graph.specs.Graphs.{GraphView, IsGraph, has, kids_of}
 use Rattle.pim_graph.specs.Orders.{visit, visited, falling_kids, order, IsReached}
 use Rattle.pim_graph.specs.Orders.IsReached.{as_root, as_child}
 use Rattle.pim_graph.specs.Peaks.{IsPlaced, needed, read_by}
 use Rattle.pim_graph.specs.Usages.{falling, usages}
+use Rattle.pim_graph.proofs.Placing.{length-placed}
 use Rattle.pim_graph.proofs.UsageSteps.{All-falling}
 use Rattle.pim_graph.proofs.Orderings.{has-append_left, has-get_or, has-fold_falling, order_visits, order-IsPlaced}
 
@@ -119,3 +122,18 @@ order_needed g sound p l x e (as_child {reader} r h) =
 -- each gate of an order is a root, or one behind it reads it
 pub order_needs : (g : GraphView) → IsGraph g → (p : ℕ) → p < length (order g) → needed g (drop (p + 1) (order g)) (get_or (order g) p 0) ≡ true
 order_needs g sound p l = order_needed g sound p l (get_or (order g) p 0) refl (order_reached g p 0 l)
+
+any-has : (xs : List ℕ) (x : ℕ) → has xs x ≡ true → list_any (eqb x) xs ≡ true
+any-has [] x h = absurd (false≢true h)
+any-has (y ∷ ys) x h =
+    elim (or_cases (eqb y x) (has ys x) h) [
+      | inl e ↦ or_left (eqb x y) (list_any (eqb x) ys) (eq-eqb x y (sym (eqb-true y x e)))
+      | inr rest ↦ or_right (eqb x y) (list_any (eqb x) ys) (any-has ys x rest)
+    ]
+
+-- where the roots reach all gates, the order holds all of them
+pub order_full : (g : GraphView) → IsGraph g → ((gate : ℕ) → gate < length g.kids → IsReached g gate) → length (order g) ≡ length g.kids
+order_full g sound all =
+    let most = length-placed g (order g) (order-IsPlaced g sound) in
+    let least = le-length_from_below (order g) (length g.kids) (λ x l. any-has (order g) x (order_complete g sound x (all x l))) in
+    omega arith

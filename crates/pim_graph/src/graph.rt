@@ -1,5 +1,7 @@
-ghost use Rattle.std.specs.Prelude.{◌≡◌, ◌==◌, ◌+◌, ◌<◌, ◌≤◌, ◌^◌, ◌∷◌, ◌++◌, [], All, length, slice_index_or, if◌then◌else◌, IfOk, OnErr, OnOk};
+ghost use Rattle.std.specs.Prelude.{◌≡◌, ◌==◌, ◌+◌, ◌<◌, ◌≤◌, ◌^◌, ◌∷◌, ◌++◌, [], ℕ, All, length, slice_index_or, if◌then◌else◌, IfOk, OnErr, OnOk};
 ghost use Rattle.pim_graph.specs.Graphs.{IsGraph, has};
+ghost use Rattle.pim_graph.specs.Orders.{IsReached, order};
+ghost use Rattle.pim_graph.specs.Peaks.{IsPlaced};
 ghost use Rattle.pim_graph.specs.inner.Nodes.{IsNodeOf};
 
 use pim_io::NoMemory;
@@ -113,6 +115,16 @@ impl Graph {
         ensures sound { IsGraph self.now }
     {
         self.roots.as_slice()
+    }
+
+    /// The law of orders, for those who read a graph: it computes nothing. The order of the graph holds gates of it, each
+    /// once and after its children, and it holds all of them where the roots reach all.
+    pub fn has_order(&self)
+        ensures placed { IsPlaced self.now (order self.now) }
+        ensures full { ((gate : ℕ) → gate < length self.now.kids → IsReached self.now gate)
+            → length (order self.now) ≡ length self.now.kids }
+    {
+        let _ = &self.roots;
     }
 }
 

@@ -9,3 +9,4 @@ pub mod Options
 pub mod Outside
 pub mod Readings
 pub mod Words
+pub mod Writes

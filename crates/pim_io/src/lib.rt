@@ -34,4 +34,4 @@ pub use slice_source::SliceSource;
 pub use source::{Source, SourceFault};
 pub use words::{Words, first_space, is_blank, number};
 pub use write_sink::WriteSink;
-pub use writing::{write_all, write_pieces};
+pub use writing::{tell_writes, write_all, write_pieces};

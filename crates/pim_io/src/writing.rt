@@ -1,5 +1,6 @@
 ghost use Rattle.std.specs.Prelude.{◌≤◌, [], map, OnOk, OnErr};
 ghost use Rattle.pim_io.specs.Outside.{Rose, TookAll, TookFirst, Wrote, with_pieces};
+ghost use Rattle.pim_io.specs.Writes.{WritesAddUp};
 
 use crate::{Sink, SinkFault};
 
@@ -18,6 +19,11 @@ pub fn write_all<K: Sink>(sink: &mut K, piece: &[u8]) -> Result<(), SinkFault>
     }
     Ok(())
 }
+
+/// How writes that follow one another make up one. Computes nothing.
+pub fn tell_writes()
+    ensures { WritesAddUp }
+{}
 
 /// Writes pieces to a sink, one after another. On a fault the sink took a prefix of them all. Linear in the pieces and the
 /// calls that the sink needs.

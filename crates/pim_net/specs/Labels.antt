@@ -1,6 +1,6 @@
 -- What a name is that a label is made of.
 use Rattle.std.specs.Prelude.{ℕ, ◌<◌, ◌≤◌, List, length}
-use Rattle.pim_io.specs.declared.name.TheConstants.{MAX_NAME}
+use Rattle.pim_io.specs.declared.limits.TheConstants.{MAX_NAME}
 
 -- a name has 1 to 4,096 bytes
 abbrev pub IsName : List ℕ → Type 0

@@ -8,7 +8,8 @@ use Rattle.pim_nor.specs.Lowered.{marks_of, nors, roots}
 use Rattle.pim_nor.specs.Named.{gate_at}
 use Rattle.pim_nor.specs.Network.{pins}
 use Rattle.pim_nor.specs.Reached.{kept, number, numbered, numbered_gate}
-use Rattle.pim_nor.specs.Reaching.{IsReached, by_output, by_gate, IsRead}
+use Rattle.pim_nor.specs.Reaching.{IsSlotReached, by_output, by_gate}
+use Rattle.pim_nor.specs.Network.{IsRead}
 use Rattle.pim_nor.specs.declared.lowering.Width.{Width}
 use Rattle.pim_nor.specs.declared.network.Gate.{Gate}
 use Rattle.pim_nor.specs.declared.network.Gate.TheVariants.{One}
@@ -40,7 +41,7 @@ Contains-numbered ms ps s c =
     (c.0, (let l = c.1 in omega (arith, length-map ps (numbered ms))), get_or-numbered ms ps c.0 (Place s) (Place (number ms s)) c.1 c.2)
 
 -- the gate of a slot that the outputs reach is read in the network
-read_by_number : (g : AigView) → IsAig g → (width : Width) → {slot : ℕ} → IsReached g width slot → IsRead (nors g width) (number (marks_of g (leaves g width)) slot)
+read_by_number : (g : AigView) → IsAig g → (width : Width) → {slot : ℕ} → IsSlotReached g width slot → IsRead (nors g width) (number (marks_of g (leaves g width)) slot)
 read_by_number g sound width {slot} (by_output c) = inl (Contains-numbered (marks_of g (leaves g width)) (roots g) slot c)
 read_by_number g sound width {slot} (by_gate {reader} r c) =
     let lists = leaves g width in

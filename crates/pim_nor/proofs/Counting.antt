@@ -5,33 +5,33 @@ use Rattle.std.proofs.lemmas.List.{at_drop_more, at_drop_all, get_or-set_same, g
 use Rattle.pim_aig.specs.Graph.{AigView, IsAig, nodes}
 use Rattle.pim_aig.specs.declared.literal.Lit.{Lit}
 use Rattle.pim_aig.specs.declared.graph.And.{And}
-use Rattle.pim_nor.specs.Leaves.{read_by, reads, is_among, is_single, gives_way}
-use Rattle.pim_nor.specs.Plans.{TellsSingle}
+use Rattle.pim_nor.specs.Leaves.{literal_reads, operand_reads, is_among, is_single, gives_way}
+use Rattle.pim_nor.specs.inner.Plans.{TellsSingle}
 use Rattle.pim_nor.proofs.LeafLists.{IsAnd, gives_way-IsOpened}
 
-read_by-le : (l : Lit) (n : ℕ) → read_by l n ≤ 1
-read_by-le l n =
+literal_reads-le : (l : Lit) (n : ℕ) → literal_reads l n ≤ 1
+literal_reads-le l n =
     let P : ℕ → Type 0 = λ m. m ≤ 1 in
     cond_both (eqb (l.0 / 2) n) 1 0 P (λ _. omega arith) (λ _. omega arith)
 
-pub reads-le : (ands : List And) (n : ℕ) → reads ands n ≤ 2 * length ands
-reads-le [] n = omega arith
-reads-le (a ∷ rest) n = omega (arith, read_by-le a.x n, read_by-le a.y n, reads-le rest n)
+pub operand_reads-le : (ands : List And) (n : ℕ) → operand_reads ands n ≤ 2 * length ands
+operand_reads-le [] n = omega arith
+operand_reads-le (a ∷ rest) n = omega (arith, literal_reads-le a.x n, literal_reads-le a.y n, operand_reads-le rest n)
 
 -- the operands of each AND node are of the first nodes
 abbrev pub OfFirst : List And → ℕ → Type 0
 OfFirst ands nodes = (k : ℕ) (d : And) → k < length ands → (get_or ands k d).x.0 < 2 * nodes × (get_or ands k d).y.0 < 2 * nodes
 
-read_by-outside : (l : Lit) (n nodes : ℕ) → l.0 < 2 * nodes → nodes ≤ n → read_by l n ≡ 0
-read_by-outside l n nodes h out =
+literal_reads-outside : (l : Lit) (n nodes : ℕ) → l.0 < 2 * nodes → nodes ≤ n → literal_reads l n ≡ 0
+literal_reads-outside l n nodes h out =
     let ne : l.0 / 2 ≡ n → ⊥ = λ e. omega arith in
     ap (λ (b : Bool). cond b 1 0) (ne_eqb (l.0 / 2) n ne)
 
-reads-outside : (ands : List And) (n nodes : ℕ) → OfFirst ands nodes → nodes ≤ n → reads ands n ≡ 0
-reads-outside [] n nodes h out = refl
-reads-outside (a ∷ rest) n nodes h out =
+operand_reads-outside : (ands : List And) (n nodes : ℕ) → OfFirst ands nodes → nodes ≤ n → operand_reads ands n ≡ 0
+operand_reads-outside [] n nodes h out = refl
+operand_reads-outside (a ∷ rest) n nodes h out =
     let first = h 0 a (omega arith) in
-    omega (arith, read_by-outside a.x n nodes first.0 out, read_by-outside a.y n nodes first.1 out, reads-outside rest n nodes (λ k d l. h (suc k) d (omega arith)) out)
+    omega (arith, literal_reads-outside a.x n nodes first.0 out, literal_reads-outside a.y n nodes first.1 out, operand_reads-outside rest n nodes (λ k d l. h (suc k) d (omega arith)) out)
 
 pub IsAig-OfFirst : (g : AigView) → IsAig g → OfFirst g.ands (nodes g)
 IsAig-OfFirst g sound k d h =
@@ -41,7 +41,7 @@ IsAig-OfFirst g sound k d h =
 
 single-outside : (g : AigView) → IsAig g → (n : ℕ) → nodes g ≤ n → is_single g n ≡ false
 single-outside g sound n out =
-    and_left (eqb (reads g.ands n) 1) (not (is_among g.outputs n)) (ap (λ (m : ℕ). eqb m 1) (reads-outside g.ands n (nodes g) (IsAig-OfFirst g sound) out))
+    and_left (eqb (operand_reads g.ands n) 1) (not (is_among g.outputs n)) (ap (λ (m : ℕ). eqb m 1) (operand_reads-outside g.ands n (nodes g) (IsAig-OfFirst g sound) out))
 
 -- what gives way is of an AND node that is there
 pub gives_way-IsAnd : (g : AigView) → IsAig g → (l : Lit) → gives_way g l ≡ true → IsAnd g (l.0 / 2)
@@ -53,7 +53,7 @@ gives_way-IsAnd g sound l h =
     ]
 
 -- one more read of a node
-counted : (cs : List ℕ) (l : Lit) (n : ℕ) → l.0 / 2 < length cs → get_or (set cs (l.0 / 2) (get_or cs (l.0 / 2) 0 + 1)) n 0 ≡ get_or cs n 0 + read_by l n
+counted : (cs : List ℕ) (l : Lit) (n : ℕ) → l.0 / 2 < length cs → get_or (set cs (l.0 / 2) (get_or cs (l.0 / 2) 0 + 1)) n 0 ≡ get_or cs n 0 + literal_reads l n
 counted cs l n h =
     let m = l.0 / 2 in
     elim (cases_eq m n) [
@@ -63,21 +63,21 @@ counted cs l n h =
           subst P e here ∙ ap (λ (b : Bool). get_or cs n 0 + cond b 1 0) (sym (eq-eqb m n e))
       | inr ne ↦
           let other : get_or (set cs m (get_or cs m 0 + 1)) n 0 ≡ get_or cs n 0 = get_or-set_other cs m n (get_or cs m 0 + 1) 0 (λ e. ne (sym e)) in
-          let none : read_by l n ≡ 0 = ap (λ (b : Bool). cond b 1 0) (ne_eqb m n ne) in
+          let none : literal_reads l n ≡ 0 = ap (λ (b : Bool). cond b 1 0) (ne_eqb m n ne) in
           omega arith
     ]
 
--- the reads of one AND node more
-pub counted_and : (cs one both : List ℕ) (a : And) (n N : ℕ) → length cs ≡ N → a.x.0 < 2 * N → a.y.0 < 2 * N → one ≡ set cs (a.x.0 / 2) (get_or cs (a.x.0 / 2) 0 + 1) → both ≡ set one (a.y.0 / 2) (get_or one (a.y.0 / 2) 0 + 1) → get_or both n 0 ≡ get_or cs n 0 + (read_by a.x n + read_by a.y n)
+-- the operand_reads of one AND node more
+pub counted_and : (cs one both : List ℕ) (a : And) (n N : ℕ) → length cs ≡ N → a.x.0 < 2 * N → a.y.0 < 2 * N → one ≡ set cs (a.x.0 / 2) (get_or cs (a.x.0 / 2) 0 + 1) → both ≡ set one (a.y.0 / 2) (get_or one (a.y.0 / 2) 0 + 1) → get_or both n 0 ≡ get_or cs n 0 + (literal_reads a.x n + literal_reads a.y n)
 counted_and cs one both a n N len x y e f =
     let size : length one ≡ N = ap (λ (ys : List ℕ). length ys) e ∙ (length-set cs (a.x.0 / 2) (get_or cs (a.x.0 / 2) 0 + 1) ∙ len) in
-    let first : get_or one n 0 ≡ get_or cs n 0 + read_by a.x n = ap (λ (ys : List ℕ). get_or ys n 0) e ∙ counted cs a.x n (omega arith) in
-    let second : get_or both n 0 ≡ get_or one n 0 + read_by a.y n = ap (λ (ys : List ℕ). get_or ys n 0) f ∙ counted one a.y n (omega arith) in
+    let first : get_or one n 0 ≡ get_or cs n 0 + literal_reads a.x n = ap (λ (ys : List ℕ). get_or ys n 0) e ∙ counted cs a.x n (omega arith) in
+    let second : get_or both n 0 ≡ get_or one n 0 + literal_reads a.y n = ap (λ (ys : List ℕ). get_or ys n 0) f ∙ counted one a.y n (omega arith) in
     omega arith
 
--- the rest of the reads after one AND node
-pub reads-drop : (ands : List And) (k : ℕ) (a : And) (n : ℕ) → k < length ands → reads (drop k ands) n ≡ read_by (get_or ands k a).x n + read_by (get_or ands k a).y n + reads (drop (k + 1) ands) n
-reads-drop ands k a n h = at_drop_more (λ xs. reads xs n) ands k a h
+-- the rest of the operand_reads after one AND node
+pub operand_reads-drop : (ands : List And) (k : ℕ) (a : And) (n : ℕ) → k < length ands → operand_reads (drop k ands) n ≡ literal_reads (get_or ands k a).x n + literal_reads (get_or ands k a).y n + operand_reads (drop (k + 1) ands) n
+operand_reads-drop ands k a n h = at_drop_more (λ xs. operand_reads xs n) ands k a h
 
 -- the operands of an AND node are of nodes that are there
 pub read_there : (g : AigView) → IsAig g → (ands : List And) → ands ≡ g.ands → (k : ℕ) (d : And) → k < length ands → ((get_or ands k d).x.0 < 2 * nodes g) × ((get_or ands k d).y.0 < 2 * nodes g)
@@ -86,36 +86,36 @@ read_there g sound ands e =
     subst P (sym e) (IsAig-OfFirst g sound)
 
 -- what was counted, with what is left, is at most two for each AND node
-left-le : (g : AigView) → IsAig g → (ands : List And) → ands ≡ g.ands → (n c r : ℕ) → c + r ≡ reads ands n → c ≤ 2097152
+left-le : (g : AigView) → IsAig g → (ands : List And) → ands ≡ g.ands → (n c r : ℕ) → c + r ≡ operand_reads ands n → c ≤ 2097152
 left-le g sound ands e n c r h =
     let len : length ands ≡ length g.ands = ap (λ (xs : List And). length xs) e in
-    omega (arith, reads-le ands n, sound.ands_fit)
+    omega (arith, operand_reads-le ands n, sound.ands_fit)
 
 -- there is room for the first read of an AND node
-pub room_x : (g : AigView) → IsAig g → (ands : List And) → ands ≡ g.ands → (cs : List ℕ) (k : ℕ) (d : And) → k < length ands → ((n : ℕ) → n < nodes g → get_or cs n 0 + reads (drop k ands) n ≡ reads ands n) → get_or cs ((get_or ands k d).x.0 / 2) 0 + 1 < 4294967296
+pub room_x : (g : AigView) → IsAig g → (ands : List And) → ands ≡ g.ands → (cs : List ℕ) (k : ℕ) (d : And) → k < length ands → ((n : ℕ) → n < nodes g → get_or cs n 0 + operand_reads (drop k ands) n ≡ operand_reads ands n) → get_or cs ((get_or ands k d).x.0 / 2) 0 + 1 < 4294967296
 room_x g sound ands e cs k d h rest =
     let n = (get_or ands k d).x.0 / 2 in
     let there = read_there g sound ands e k d h in
     let x = there.0 in
-    omega (arith, left-le g sound ands e n (get_or cs n 0) (reads (drop k ands) n) (rest n (omega arith)))
+    omega (arith, left-le g sound ands e n (get_or cs n 0) (operand_reads (drop k ands) n) (rest n (omega arith)))
 
 -- and for the second one
-pub room_y : (g : AigView) → IsAig g → (ands : List And) → ands ≡ g.ands → (cs one : List ℕ) (k : ℕ) (d : And) → k < length ands → length cs ≡ nodes g → ((n : ℕ) → n < nodes g → get_or cs n 0 + reads (drop k ands) n ≡ reads ands n) → one ≡ set cs ((get_or ands k d).x.0 / 2) (get_or cs ((get_or ands k d).x.0 / 2) 0 + 1) → get_or one ((get_or ands k d).y.0 / 2) 0 + 1 < 4294967296
+pub room_y : (g : AigView) → IsAig g → (ands : List And) → ands ≡ g.ands → (cs one : List ℕ) (k : ℕ) (d : And) → k < length ands → length cs ≡ nodes g → ((n : ℕ) → n < nodes g → get_or cs n 0 + operand_reads (drop k ands) n ≡ operand_reads ands n) → one ≡ set cs ((get_or ands k d).x.0 / 2) (get_or cs ((get_or ands k d).x.0 / 2) 0 + 1) → get_or one ((get_or ands k d).y.0 / 2) 0 + 1 < 4294967296
 room_y g sound ands e cs one k d h len rest first =
     let a = get_or ands k d in
     let n = a.y.0 / 2 in
     let there = read_there g sound ands e k d h in
     let x = there.0 in
     let y = there.1 in
-    let more : get_or one n 0 ≡ get_or cs n 0 + read_by a.x n = ap (λ (ys : List ℕ). get_or ys n 0) first ∙ counted cs a.x n (omega arith) in
-    omega (arith, read_by-le a.x n, left-le g sound ands e n (get_or cs n 0) (reads (drop k ands) n) (rest n (omega arith)))
+    let more : get_or one n 0 ≡ get_or cs n 0 + literal_reads a.x n = ap (λ (ys : List ℕ). get_or ys n 0) first ∙ counted cs a.x n (omega arith) in
+    omega (arith, literal_reads-le a.x n, left-le g sound ands e n (get_or cs n 0) (operand_reads (drop k ands) n) (rest n (omega arith)))
 
 -- one AND node more is counted
-pub counted_step : (g : AigView) → IsAig g → (ands : List And) → ands ≡ g.ands → (cs one both : List ℕ) (k : ℕ) (d : And) → k < length ands → length cs ≡ nodes g → ((n : ℕ) → n < nodes g → get_or cs n 0 + reads (drop k ands) n ≡ reads ands n) → one ≡ set cs ((get_or ands k d).x.0 / 2) (get_or cs ((get_or ands k d).x.0 / 2) 0 + 1) → both ≡ set one ((get_or ands k d).y.0 / 2) (get_or one ((get_or ands k d).y.0 / 2) 0 + 1) → (n : ℕ) → n < nodes g → get_or both n 0 + reads (drop (k + 1) ands) n ≡ reads ands n
+pub counted_step : (g : AigView) → IsAig g → (ands : List And) → ands ≡ g.ands → (cs one both : List ℕ) (k : ℕ) (d : And) → k < length ands → length cs ≡ nodes g → ((n : ℕ) → n < nodes g → get_or cs n 0 + operand_reads (drop k ands) n ≡ operand_reads ands n) → one ≡ set cs ((get_or ands k d).x.0 / 2) (get_or cs ((get_or ands k d).x.0 / 2) 0 + 1) → both ≡ set one ((get_or ands k d).y.0 / 2) (get_or one ((get_or ands k d).y.0 / 2) 0 + 1) → (n : ℕ) → n < nodes g → get_or both n 0 + operand_reads (drop (k + 1) ands) n ≡ operand_reads ands n
 counted_step g sound ands e cs one both k d h len rest first second n in_range =
     let a = get_or ands k d in
     let there = read_there g sound ands e k d h in
-    omega (arith, counted_and cs one both a n (nodes g) len there.0 there.1 first second, reads-drop ands k d n h, rest n in_range)
+    omega (arith, counted_and cs one both a n (nodes g) len there.0 there.1 first second, operand_reads-drop ands k d n h, rest n in_range)
 
 -- one output's node is no longer counted
 pub cleared_step : (ls : List Lit) (cs : List ℕ) (k m n whole : ℕ) (d : Lit) → k < length ls → n < length cs → m ≡ (get_or ls k d).0 / 2 → cond (is_among (drop k ls) n) 0 (get_or cs n 0) ≡ whole → cond (is_among (drop (k + 1) ls) n) 0 (get_or (set cs m 0) n 0) ≡ whole
@@ -153,12 +153,12 @@ one_left false r c e = ap (λ (n : ℕ). eqb n 1) e ∙ sym (and_yes (eqb r 1))
     and_yes true = refl
     and_yes false = refl
 
-pub cleared_all : (g : AigView) → IsAig g → (ls : List Lit) → ls ≡ g.outputs → (cs : List ℕ) (k : ℕ) → length ls ≤ k → length cs ≡ nodes g → ((n : ℕ) → n < nodes g → cond (is_among (drop k ls) n) 0 (get_or cs n 0) ≡ cond (is_among ls n) 0 (reads g.ands n)) → TellsSingle g cs
+pub cleared_all : (g : AigView) → IsAig g → (ls : List Lit) → ls ≡ g.outputs → (cs : List ℕ) (k : ℕ) → length ls ≤ k → length cs ≡ nodes g → ((n : ℕ) → n < nodes g → cond (is_among (drop k ls) n) 0 (get_or cs n 0) ≡ cond (is_among ls n) 0 (operand_reads g.ands n)) → TellsSingle g cs
 cleared_all g sound ls e cs k done len rest n =
     elim (cases_lt n (nodes g)) [
       | inl there ↦
-          let end : get_or cs n 0 ≡ cond (is_among ls n) 0 (reads g.ands n) = sym (at_drop_all (λ xs. cond (is_among xs n) 0 (get_or cs n 0)) ls k done) ∙ rest n there in
-          one_left (is_among ls n) (reads g.ands n) (get_or cs n 0) end ∙ ap (λ (xs : List Lit). eqb (reads g.ands n) 1 && not (is_among xs n)) e
+          let end : get_or cs n 0 ≡ cond (is_among ls n) 0 (operand_reads g.ands n) = sym (at_drop_all (λ xs. cond (is_among xs n) 0 (get_or cs n 0)) ls k done) ∙ rest n there in
+          one_left (is_among ls n) (operand_reads g.ands n) (get_or cs n 0) end ∙ ap (λ (xs : List Lit). eqb (operand_reads g.ands n) 1 && not (is_among xs n)) e
       | inr out ↦
           let past : get_or cs n 0 ≡ 0 = get_or_past cs n 0 (omega arith) in
           ap (λ (c : ℕ). eqb c 1) past ∙ sym (single-outside g sound n out)

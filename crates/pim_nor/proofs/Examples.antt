@@ -1,15 +1,17 @@
 -- Small graphs, with their networks at both widths by computation.
 use Rattle.std.specs.Prelude.{◌≡◌, ℕ, true, List, [], ◌∷◌, refl}
+use Rattle.std.proofs.Common.{inl, inr, arith}
 use Rattle.pim_aig.specs.Graph.{AigView}
 use Rattle.pim_aig.specs.declared.literal.Lit.{Lit}
 use Rattle.pim_aig.specs.declared.graph.And.{And}
 use Rattle.pim_graph.specs.Graphs.{GraphView}
-use Rattle.pim_graph.specs.Orders.{order}
+use Rattle.pim_graph.specs.Orders.{order, IsReached}
+use Rattle.pim_graph.specs.Orders.IsReached.{as_root, as_child}
 use Rattle.pim_graph.specs.Peaks.{peak}
 use Rattle.pim_nor.specs.GateGraphs.{graph_of}
 use Rattle.pim_nor.specs.Leaves.{is_single, leaves}
 use Rattle.pim_nor.specs.Lowered.{nors}
-use Rattle.pim_nor.specs.Network.{NorView, nor_count}
+use Rattle.pim_nor.specs.Network.{NorView, IsRead, nor_count}
 use Rattle.pim_nor.specs.declared.lowering.Width.{Width}
 use Rattle.pim_nor.specs.declared.lowering.Width.TheVariants.{Two, Four}
 use Rattle.pim_nor.specs.declared.network.Gate.{Gate}
@@ -149,6 +151,17 @@ doubled = record { inputs = 1; gates = Not (Input 0) ∷ Nor3 (Place 0) (Input 0
 
 doubled_graph : graph_of doubled ≡ record { kids = [] ∷ (0 ∷ []) ∷ []; roots = 1 ∷ 0 ∷ [] }
 doubled_graph = refl
+
+-- gate 1 is an output's, and gate 0 is read by gate 1 and by an output
+output_read : IsRead doubled 1
+output_read = inl (0, omega arith, refl)
+
+gate_read : IsRead doubled 0
+gate_read = inr (1, omega arith, (0, omega arith, refl))
+
+-- the roots reach gate 0 by way of gate 1
+doubled_reached : IsReached (graph_of doubled) 0
+doubled_reached = as_child {reader = 1} (as_root refl) refl
 
 -- a full adder: the sum, and then the carry
 abbrev full_adder : AigView

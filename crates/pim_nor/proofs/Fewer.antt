@@ -8,15 +8,16 @@ use Rattle.pim_aig.specs.Literals.{complement}
 use Rattle.pim_aig.specs.declared.literal.Lit.{Lit}
 use Rattle.pim_nor.specs.Leaves.{leaves, operands, and_at, widened, distinct}
 use Rattle.pim_nor.specs.Lowered.{marks_of, nors}
-use Rattle.pim_nor.specs.Named.{slots, source, literal_at, gate_of, gate_at, nor_of, nor_of_leaves}
+use Rattle.pim_nor.specs.Named.{slots, source, literal_at, gate_of, gate_at, nor_of_leaves}
 use Rattle.pim_nor.specs.Network.{pins, is_nor, nor_count}
 use Rattle.pim_nor.specs.Reached.{numbered_gate, kept}
-use Rattle.pim_nor.specs.Reaching.{IsReached, by_output, by_gate}
+use Rattle.pim_nor.specs.Reaching.{IsSlotReached, by_output, by_gate}
 use Rattle.pim_nor.specs.declared.lowering.Width.TheVariants.{Two, Four}
 use Rattle.pim_nor.specs.declared.network.Gate.{Gate}
-use Rattle.pim_nor.specs.declared.network.Gate.TheVariants.{One, Not, Nor, Nor3, Nor4}
+use Rattle.pim_nor.specs.declared.network.Gate.TheVariants.{One, Not}
 use Rattle.pim_nor.specs.declared.network.Pin.{Pin}
 use Rattle.pim_nor.specs.declared.network.Pin.TheVariants.{Gate as Place}
+use Rattle.pim_nor.proofs.Constants.{is_nor-numbered, is_nor-nor_of}
 use Rattle.pim_nor.proofs.LeafLists.{AllOf, AllOf-distinct, AllOf-widened, IsAnd, IsOpened, AreLeaves, leaves-AreLeaves}
 use Rattle.pim_nor.proofs.LiteralValues.{pins-nor_of, complement-even, complement-odd, source_and}
 use Rattle.pim_nor.proofs.Reachable.{reached-kept, kept-reached, marked_there}
@@ -43,17 +44,17 @@ pins-pos g lists are n is =
 
 -- the gate that the leaf's complement has, if it has one, is reached at width two
 abbrev LeafIsReached : AigView → Lit → Type 0
-LeafIsReached g l = (slot : ℕ) → leaf_pin g l ≡ Place slot → IsReached g Two slot
+LeafIsReached g l = (slot : ℕ) → leaf_pin g l ≡ Place slot → IsSlotReached g Two slot
 
 -- what a reached gate reads for its first operand
-first_read : (g : AigView) → IsAig g → (n : ℕ) → IsAnd g n → IsReached g Two (pos g n) → LeafIsReached g (and_at g n).x
+first_read : (g : AigView) → IsAig g → (n : ℕ) → IsAnd g n → IsSlotReached g Two (pos g n) → LeafIsReached g (and_at g n).x
 unfolding leaves
 first_read g sound n is r slot e =
     let P : List Pin → Type 0 = λ ps. Contains ps (Place slot) in
     by_gate r (subst P (sym (pins-pos g (leaves g Two) (leaves-AreLeaves g sound Two) n is)) (0, omega arith, e))
 
 -- and for its second one, which may repeat the first
-second_read : (g : AigView) → IsAig g → (n : ℕ) → IsAnd g n → IsReached g Two (pos g n) → LeafIsReached g (and_at g n).y
+second_read : (g : AigView) → IsAig g → (n : ℕ) → IsAnd g n → IsSlotReached g Two (pos g n) → LeafIsReached g (and_at g n).y
 unfolding leaves
 second_read g sound n is r slot e =
     let x = (and_at g n).x in
@@ -74,7 +75,7 @@ second_read g sound n is r slot e =
     second_stays x y other = ap (λ (b : Bool). x ∷ cond (b || false) [] (y ∷ [])) (ne_eqb x.0 y.0 other)
 
 -- a reached slot is there
-slot_there : (g : AigView) → IsAig g → (slot : ℕ) → IsReached g Two slot → slot < slots g
+slot_there : (g : AigView) → IsAig g → (slot : ℕ) → IsSlotReached g Two slot → slot < slots g
 slot_there g sound slot r =
     omega (arith, marked_there (marks_of g (leaves g Two)) slot (reached-kept g sound Two r), length-marks_of g (leaves g Two))
 
@@ -99,14 +100,14 @@ opened_read g sound l opened h =
     let number : c.0 ≡ 2 * n + 1 = complement-even l even ∙ omega arith in
     let neg = pos g n + 1 in
     let pin_is : leaf_pin g l ≡ Place neg = source_and g.inputs c (omega arith) ∙ ap (λ (k : ℕ). Place k) (omega arith) in
-    let neg_reached : IsReached g Two neg = h neg pin_is in
+    let neg_reached : IsSlotReached g Two neg = h neg pin_is in
     let is : IsAnd g n = record { above = opened.above; there = omega (arith, slot_there g sound neg neg_reached) } in
     let P : List Pin → Type 0 = λ ps. Contains ps (Place (pos g n)) in
-    let r : IsReached g Two (pos g n) = by_gate neg_reached (subst P (sym (pins-neg g (leaves g Two) n above)) (0, omega arith, refl)) in
+    let r : IsSlotReached g Two (pos g n) = by_gate neg_reached (subst P (sym (pins-neg g (leaves g Two) n above)) (0, omega arith, refl)) in
     (first_read g sound n is r, second_read g sound n is r)
 
 -- all leaves of a reached AND node at width four are reached so
-leaves_read : (g : AigView) → IsAig g → (n : ℕ) → IsAnd g n → IsReached g Two (pos g n) → AllOf (LeafIsReached g) (leaves g Four n)
+leaves_read : (g : AigView) → IsAig g → (n : ℕ) → IsAnd g n → IsSlotReached g Two (pos g n) → AllOf (LeafIsReached g) (leaves g Four n)
 unfolding leaves
 leaves_read g sound n is r =
     let P : Lit → Type 0 = LeafIsReached g in
@@ -115,7 +116,7 @@ leaves_read g sound n is r =
     let twice = AllOf-widened g P (λ l o h. opened_read g sound l o h) (widened g (operands g n)) once in
     AllOf-distinct P [] (widened g (widened g (operands g n))) twice
 
-leaf_there : (g : AigView) (ls : List Lit) (slot k : ℕ) → AllOf (LeafIsReached g) ls → k < length (map (leaf_pin g) ls) → get_or (map (leaf_pin g) ls) k (Place slot) ≡ Place slot → IsReached g Two slot
+leaf_there : (g : AigView) (ls : List Lit) (slot k : ℕ) → AllOf (LeafIsReached g) ls → k < length (map (leaf_pin g) ls) → get_or (map (leaf_pin g) ls) k (Place slot) ≡ Place slot → IsSlotReached g Two slot
 leaf_there g [] slot k h l e = absurd (omega arith)
 leaf_there g (m ∷ ls) slot zero h l e = h.0 slot e
 leaf_there g (m ∷ ls) slot (suc k) h l e = leaf_there g ls slot k h.1 (omega arith) e
@@ -143,10 +144,10 @@ same_gate g ls ms s (inr h) =
     gate_of_not g ls l (inr (omega arith, omega arith)) ∙ sym (gate_of_not g ms l (inr (omega arith, omega arith)))
 
 -- what the outputs reach at width four they reach at width two
-pub reached-narrower : (g : AigView) → IsAig g → {slot : ℕ} → IsReached g Four slot → IsReached g Two slot
+pub reached-narrower : (g : AigView) → IsAig g → {slot : ℕ} → IsSlotReached g Four slot → IsSlotReached g Two slot
 reached-narrower g sound (by_output c) = by_output c
 reached-narrower g sound {slot} (by_gate {reader} r c) =
-    let here : IsReached g Two reader = reached-narrower g sound r in
+    let here : IsSlotReached g Two reader = reached-narrower g sound r in
     let there = slot_there g sound reader here in
     let P : Gate → Type 0 = λ x. Contains (pins x) (Place slot) in
     elim (cases_lt reader (2 + g.inputs)) [
@@ -156,7 +157,7 @@ reached-narrower g sound {slot} (by_gate {reader} r c) =
             let n = (reader + g.inputs) / 2 in
             let is : IsAnd g n = record { above = omega arith; there = omega arith } in
             let at : reader ≡ pos g n = omega arith in
-            let R : ℕ → Type 0 = λ s. IsReached g Two s in
+            let R : ℕ → Type 0 = λ s. IsSlotReached g Two s in
             let Q : ℕ → Type 0 = λ s. Contains (pins (gate_at g (leaves g Four) s)) (Place slot) in
             let S : List Pin → Type 0 = λ ps. Contains ps (Place slot) in
             let found = subst S (pins-pos g (leaves g Four) (leaves-AreLeaves g sound Four) n is) (subst Q at c) in
@@ -166,19 +167,6 @@ reached-narrower g sound {slot} (by_gate {reader} r c) =
     ]
 
 -- counting
-
-is_nor-numbered : (marks : List Bool) (x : Gate) → is_nor (numbered_gate marks x) ≡ is_nor x
-is_nor-numbered marks One = refl
-is_nor-numbered marks (Not a) = refl
-is_nor-numbered marks (Nor a b) = refl
-is_nor-numbered marks (Nor3 a b c) = refl
-is_nor-numbered marks (Nor4 a b c d) = refl
-
-is_nor-nor_of : (p : Pin) (ps : List Pin) → is_nor (nor_of (p ∷ ps)) ≡ true
-is_nor-nor_of a [] = refl
-is_nor-nor_of a (b ∷ []) = refl
-is_nor-nor_of a (b ∷ c ∷ []) = refl
-is_nor-nor_of a (b ∷ c ∷ d ∷ ps) = refl
 
 -- the gates before the marked ones are no more where fewer are marked and fewer are NORs
 nor_count-kept : (f h : ℕ → Gate) (s : ℕ) (ms ns : List Bool) → length ms ≡ length ns → ((k : ℕ) → get_or ms k false ≡ true → get_or ns k false ≡ true) → ((t : ℕ) → is_nor (f t) ≡ true → is_nor (h t) ≡ true) → nor_count (kept f s ms) ≤ nor_count (kept h s ns)

@@ -7,10 +7,14 @@ pub mod Counting
 pub mod Nors
 pub mod AndGates
 pub mod GateLists
+pub mod GateValues
 pub mod Sound
 pub mod Numbering
 pub mod PrunedValues
 pub mod NetworkValues
+pub mod Constants
+pub mod GraphReached
+pub mod Networks
 pub mod Reachable
 pub mod AllRead
 pub mod Fewer

@@ -1,10 +1,11 @@
 -- Each slot's gate has the value of its literal.
-use Rattle.std.proofs.Common.{◌≡◌, ℕ, ◌+◌, ◌-◌, ◌*◌, ◌/◌, ◌%◌, ◌<◌, ◌≤◌, zero, suc, Bool, true, false, cond, eqb, not, ◌&&◌, List, [], ◌∷◌, ◌++◌, length, get_or, map, refl, sym, ◌∙◌, ap, arith, inl, inr}
+use Rattle.std.proofs.Common.{◌≡◌, ℕ, ◌+◌, ◌-◌, ◌/◌, ◌%◌, ◌<◌, ◌≤◌, Bool, true, false, not, ◌&&◌, List, [], ◌∷◌, length, get_or, map, refl, sym, ◌∙◌, ap, arith, inl, inr}
 use Rattle.std.proofs.lemmas.Bool.{cases_eq, cases_lt}
 use Rattle.std.proofs.lemmas.Bool.Decides.{nat_tests}
-use Rattle.std.proofs.lemmas.List.{get_or_append_left, get_or_push, length_push, length-map}
-use Rattle.pim_aig.specs.Graph.{AigView, IsAig}
-use Rattle.pim_aig.specs.Values.{literal_value, values_from, node_values}
+use Rattle.std.proofs.lemmas.List.{length-map}
+use Rattle.pim_aig.specs.Graph.{AigView}
+use Rattle.pim_aig.specs.Laws.{ValueLaws}
+use Rattle.pim_aig.specs.Values.{literal_value, node_values}
 use Rattle.pim_aig.specs.Literals.{complement}
 use Rattle.pim_aig.specs.declared.literal.Lit.{Lit}
 use Rattle.pim_aig.specs.declared.graph.And.{And}
@@ -40,53 +41,6 @@ pub not_not : (b : Bool) → not (not b) ≡ b
 not_not true = refl
 not_not false = refl
 
--- a complement has the other value
-pub value-complement : (values : List Bool) (l : Lit) → literal_value values (complement l) ≡ not (literal_value values l)
-value-complement values l =
-    let c = complement l in
-    elim (cases_eq (l.0 % 2) 0) [
-      | inl even ↦
-          let n : c.0 ≡ l.0 + 1 = complement-even l even in
-          let half : c.0 / 2 ≡ l.0 / 2 = omega arith in
-          value-odd values c (omega arith) ∙ (ap (λ (k : ℕ). not (get_or values k false)) half ∙ ap not (sym (value-even values l even)))
-      | inr other ↦
-          let odd : l.0 % 2 ≡ 1 = omega arith in
-          let n : c.0 ≡ l.0 - 1 = complement-odd l odd in
-          let half : c.0 / 2 ≡ l.0 / 2 = omega arith in
-          value-even values c (omega arith) ∙ (ap (λ (k : ℕ). get_or values k false) half ∙ (sym (not_not (get_or values (l.0 / 2) false)) ∙ ap not (sym (value-odd values l odd))))
-    ]
-
--- more nodes change no value of earlier ones
-values_from-keeps : (values : List Bool) (ands : List And) (k : ℕ) → k < length values → get_or (values_from values ands) k false ≡ get_or values k false
-values_from-keeps values [] k h = refl
-values_from-keeps values (a ∷ rest) k h =
-    let v = literal_value values a.x && literal_value values a.y in
-    let len : length (values ++ v ∷ []) ≡ length values + 1 = length_push values v in
-    values_from-keeps (values ++ v ∷ []) rest k (omega arith) ∙ get_or_append_left values (v ∷ []) false k h
-
-literal-keeps : (values : List Bool) (ands : List And) (l : Lit) → l.0 < 2 * length values → literal_value (values_from values ands) l ≡ literal_value values l
-literal-keeps values ands l h =
-    let below : l.0 / 2 < length values = omega arith in
-    ap (λ (b : Bool). cond (eqb (l.0 % 2) 1) (not b) b) (values_from-keeps values ands (l.0 / 2) below)
-
--- an AND node's value is the AND of its operands' values
-and_value : (values : List Bool) (ands : List And) (k : ℕ) (d : And) → k < length ands → (get_or ands k d).x.0 < 2 * (length values + k) → (get_or ands k d).y.0 < 2 * (length values + k) → get_or (values_from values ands) (length values + k) false ≡ (literal_value (values_from values ands) (get_or ands k d).x && literal_value (values_from values ands) (get_or ands k d).y)
-and_value values [] k d h x y = absurd (omega arith)
-and_value values (a ∷ rest) zero d h x y =
-    let v = literal_value values a.x && literal_value values a.y in
-    let whole = values_from values (a ∷ rest) in
-    let len : length (values ++ v ∷ []) ≡ length values + 1 = length_push values v in
-    let z : length values + 0 ≡ length values = omega arith in
-    let here = values_from-keeps (values ++ v ∷ []) rest (length values) (omega arith) ∙ get_or_push values v false (length values) refl in
-    let ex = literal-keeps values (a ∷ rest) a.x (omega arith) in
-    let ey = literal-keeps values (a ∷ rest) a.y (omega arith) in
-    ap (λ (n : ℕ). get_or whole n false) z ∙ (here ∙ (ap (λ (b : Bool). b && literal_value values a.y) (sym ex) ∙ ap (λ (b : Bool). literal_value whole a.x && b) (sym ey)))
-and_value values (a ∷ rest) (suc k) d h x y =
-    let v = literal_value values a.x && literal_value values a.y in
-    let len : length (values ++ v ∷ []) ≡ length values + 1 = length_push values v in
-    let e : length values + suc k ≡ length (values ++ v ∷ []) + k = omega arith in
-    ap (λ (n : ℕ). get_or (values_from (values ++ v ∷ []) rest) n false) e ∙ and_value (values ++ v ∷ []) rest k d (omega arith) (omega arith) (omega arith)
-
 -- what a literal is read from, in each of its four cases
 source_low : (inputs : ℕ) (l : Lit) → l.0 < 2 → source inputs l ≡ Place (1 - l.0)
 source_low inputs l h = grind arith
@@ -105,13 +59,17 @@ pub record IsEvaluated (g : AigView) (bits : List Bool) (values : List Bool) : T
   pub first : get_or values 0 false ≡ false
   pub inputs_are : (j : ℕ) → j < g.inputs → get_or values (1 + j) false ≡ get_or bits j false
   pub ands_are : (k : ℕ) (d : And) → k < length g.ands → get_or values (1 + g.inputs + k) false ≡ (literal_value values (get_or g.ands k d).x && literal_value values (get_or g.ands k d).y)
+  pub complements : (l : Lit) → literal_value values (complement l) ≡ not (literal_value values l)
 
-pub node_values-IsEvaluated : (g : AigView) → IsAig g → (bits : List Bool) → length bits ≡ g.inputs → IsEvaluated g bits (node_values g bits)
-node_values-IsEvaluated g sound bits len = record {
-  first = values_from-keeps (false ∷ bits) g.ands 0 (omega arith);
-  inputs_are = λ j h. let e : 1 + j ≡ suc j = omega arith in ap (λ (n : ℕ). get_or (node_values g bits) n false) e ∙ values_from-keeps (false ∷ bits) g.ands (suc j) (omega arith);
-  ands_are = λ k d h. let e : 1 + g.inputs + k ≡ length (false ∷ bits) + k = omega arith in ap (λ (n : ℕ). get_or (node_values g bits) n false) e ∙ and_value (false ∷ bits) g.ands k d h (let b = sound.x_before k d h in omega arith) (let b = sound.y_before k d h in omega arith);
-}
+pub node_values-IsEvaluated : (g : AigView) → ValueLaws g → (bits : List Bool) → length bits ≡ g.inputs → IsEvaluated g bits (node_values g bits)
+node_values-IsEvaluated g laws bits len =
+    let values = node_values g bits in
+    record {
+      first = sym (laws.plains values 0) ∙ laws.constant bits;
+      inputs_are = λ j h. sym (laws.plains values (1 + j)) ∙ laws.inputs bits j len h;
+      ands_are = λ k d h. sym (laws.plains values (1 + g.inputs + k)) ∙ laws.ands bits k d len h;
+      complements = laws.complements values;
+    }
 
 -- what a literal is read from has its value
 pub full_value-source : (g : AigView) (bits values : List Bool) → IsEvaluated g bits values → (l : Lit) → full_value bits (slot_value g.inputs values) (source g.inputs l) ≡ literal_value values l
@@ -154,7 +112,7 @@ none_true-sources : (g : AigView) (bits values : List Bool) → IsEvaluated g bi
 none_true-sources g bits values ev [] = refl
 none_true-sources g bits values ev (l ∷ ls) =
     let full = full_value bits (slot_value g.inputs values) in
-    let here : not (full (source g.inputs (complement l))) ≡ literal_value values l = ap not (full_value-source g bits values ev (complement l) ∙ value-complement values l) ∙ not_not (literal_value values l) in
+    let here : not (full (source g.inputs (complement l))) ≡ literal_value values l = ap not (full_value-source g bits values ev (complement l) ∙ ev.complements l) ∙ not_not (literal_value values l) in
     ap (λ (b : Bool). b && none_true full (map (λ leaf. source g.inputs (complement leaf)) ls)) here ∙ ap (λ (b : Bool). literal_value values l && b) (none_true-sources g bits values ev ls)
 
 -- the NOR of at most four leaves' complements is true exactly where all leaves are

@@ -3,6 +3,7 @@ use Rattle.std.proofs.Common.{◌≡◌, ℕ, ◌+◌, ◌/◌, ◌%◌, ◌<◌
 use Rattle.std.proofs.lemmas.Bool.{cases_eq, cases_lt}
 use Rattle.std.proofs.lemmas.List.{take_all}
 use Rattle.pim_aig.specs.Graph.{AigView, IsAig}
+use Rattle.pim_aig.specs.Laws.{ValueLaws}
 use Rattle.pim_aig.specs.Values.{literal_value, node_values, aval}
 use Rattle.pim_aig.specs.Literals.{complement}
 use Rattle.pim_aig.specs.declared.literal.Lit.{Lit}
@@ -12,13 +13,14 @@ use Rattle.pim_nor.specs.declared.network.Gate.TheVariants.{Not}
 use Rattle.pim_nor.specs.Leaves.{leaves}
 use Rattle.pim_nor.specs.Lowered.{roots, marks_of, network_of, nors}
 use Rattle.pim_nor.specs.Named.{slots, source, literal_at, gate_of, gate_at}
-use Rattle.pim_nor.specs.Network.{pins, AreInputsOrFirst}
+use Rattle.pim_nor.specs.Network.{pins}
+use Rattle.pim_nor.specs.inner.Pins.{AreInputsOrFirst}
 use Rattle.pim_nor.specs.Reached.{numbered}
 use Rattle.pim_nor.specs.Values.{pin_value, none_true, out_values}
 use Rattle.pim_nor.proofs.Closure.{AreMarked, ReadBefore}
 use Rattle.pim_nor.proofs.LeafLists.{IsAnd, AreLeaves, leaves-AreLeaves}
 use Rattle.pim_nor.proofs.PrunedValues.{IsValued, full_value, kept_values, gate_values-kept, pin_value-numbered}
-use Rattle.pim_nor.proofs.LiteralValues.{IsEvaluated, slot_value, value-even, value-odd, value-complement, not_not, full_value-source, nor_of-value, node_values-IsEvaluated}
+use Rattle.pim_nor.proofs.LiteralValues.{IsEvaluated, slot_value, value-even, value-odd, not_not, full_value-source, nor_of-value, node_values-IsEvaluated}
 use Rattle.pim_nor.proofs.SlotLiterals.{literal_low, literal_mid, literal_high}
 use Rattle.pim_nor.proofs.Sound.{gate_of_one, gate_of_not, gate_of-and, ReadBefore-gate_at, closed, length-marks_of, roots-marked, roots-there, AreInputsOrFirst-AreOfFirst}
 
@@ -30,7 +32,7 @@ and_true false = refl
 not-value : (g : AigView) (lists : ℕ → List Lit) (bits values : List Bool) → IsEvaluated g bits values → (l : Lit) → gate_of g lists l ≡ Not (source g.inputs (complement l)) → none_true (full_value bits (slot_value g.inputs values)) (pins (gate_of g lists l)) ≡ literal_value values l
 not-value g lists bits values ev l e =
     let full = full_value bits (slot_value g.inputs values) in
-    ap (λ (x : Gate). none_true full (pins x)) e ∙ (and_true (not (full (source g.inputs (complement l)))) ∙ (ap not (full_value-source g bits values ev (complement l) ∙ value-complement values l) ∙ not_not (literal_value values l)))
+    ap (λ (x : Gate). none_true full (pins x)) e ∙ (and_true (not (full (source g.inputs (complement l)))) ∙ (ap not (full_value-source g bits values ev (complement l) ∙ ev.complements l) ∙ not_not (literal_value values l)))
 
 value_low : (g : AigView) (lists : ℕ → List Lit) (bits values : List Bool) → IsEvaluated g bits values → (s : ℕ) → s < 2 → none_true (full_value bits (slot_value g.inputs values)) (pins (gate_at g lists s)) ≡ slot_value g.inputs values s
 value_low g lists bits values ev s h =
@@ -81,12 +83,12 @@ outs-value g bits values ev ms (l ∷ ls) h m =
 
 -- whatever the leaves are, as long as each AND node is true exactly where all of its leaves are, the outputs of the network
 -- have the values of the graph's
-pub out_values-network_of : (g : AigView) (lists : ℕ → List Lit) → IsAig g → AreLeaves g lists → (bits : List Bool) → length bits ≡ g.inputs → out_values (network_of g lists) bits ≡ map (aval g bits) g.outputs
-out_values-network_of g lists sound are bits len =
+pub out_values-network_of : (g : AigView) (lists : ℕ → List Lit) → IsAig g → ValueLaws g → AreLeaves g lists → (bits : List Bool) → length bits ≡ g.inputs → out_values (network_of g lists) bits ≡ map (aval g bits) g.outputs
+out_values-network_of g lists sound laws are bits len =
     let ms = marks_of g lists in
     let size : length ms ≡ slots g = length-marks_of g lists in
     let values = node_values g bits in
-    let ev = node_values-IsEvaluated g sound bits len in
+    let ev = node_values-IsEvaluated g laws bits len in
     let value = slot_value g.inputs values in
     let before : ReadBefore (gate_at g lists) (length ms) = λ s h. ReadBefore-gate_at g lists are s (omega arith) in
     let valued : IsValued (gate_at g lists) (length ms) bits value = record { at = λ s h. slot-value g lists are bits values ev s (omega arith) } in
@@ -97,5 +99,5 @@ out_values-network_of g lists sound are bits len =
     ap (λ (vs : List Bool). map (pin_value bits vs) (map (numbered ms) (roots g))) (gates ∙ ap (λ (xs : List Bool). kept_values value 0 xs) (sym all)) ∙ outs-value g bits values ev ms g.outputs there (roots-marked g lists sound)
 
 -- and so they have at each width
-pub out_values-nors : (g : AigView) → IsAig g → (width : Width) → (bits : List Bool) → length bits ≡ g.inputs → out_values (nors g width) bits ≡ map (aval g bits) g.outputs
-out_values-nors g sound width bits len = out_values-network_of g (leaves g width) sound (leaves-AreLeaves g sound width) bits len
+pub out_values-nors : (g : AigView) → IsAig g → ValueLaws g → (width : Width) → (bits : List Bool) → length bits ≡ g.inputs → out_values (nors g width) bits ≡ map (aval g bits) g.outputs
+out_values-nors g sound laws width bits len = out_values-network_of g (leaves g width) sound laws (leaves-AreLeaves g sound width) bits len

@@ -2,7 +2,8 @@
 use Rattle.std.proofs.Common.{◌≡◌, List, [], ◌∷◌, fold, refl}
 use Rattle.pim_nor.specs.declared.network.Pin.{Pin}
 use Rattle.pim_nor.specs.declared.network.Gate.TheVariants.{One, Nor4}
-use Rattle.pim_nor.specs.Named.{nor_of, reading}
+use Rattle.pim_nor.specs.Named.{nor_of}
+use Rattle.pim_nor.specs.inner.Reading.{reading}
 
 reading_no_more : (a b c d : Pin) (ps : List Pin) → fold reading (Nor4 a b c d) ps ≡ Nor4 a b c d
 reading_no_more a b c d [] = refl

@@ -8,7 +8,7 @@ use Rattle.pim_nor.specs.Lowered.{marks_of, roots}
 use Rattle.pim_nor.specs.Named.{gate_at, slots}
 use Rattle.pim_nor.specs.Network.{pins}
 use Rattle.pim_nor.specs.Reached.{mark, mark_all, reached}
-use Rattle.pim_nor.specs.Reaching.{IsReached, by_output, by_gate, is_kept}
+use Rattle.pim_nor.specs.Reaching.{IsSlotReached, by_output, by_gate, is_kept}
 use Rattle.pim_nor.specs.declared.lowering.Width.{Width}
 use Rattle.pim_nor.specs.declared.network.Gate.{Gate}
 use Rattle.pim_nor.specs.declared.network.Pin.{Pin}
@@ -34,7 +34,7 @@ marked_there marks s h =
     elim (cases_lt s (length marks)) [ inl l ↦ l | inr past ↦ absurd (false≢true (sym (get_or_past marks s false past) ∙ h)) ]
 
 -- what the outputs reach is marked
-pub reached-kept : (g : AigView) → IsAig g → (width : Width) → {slot : ℕ} → IsReached g width slot → is_kept g width slot ≡ true
+pub reached-kept : (g : AigView) → IsAig g → (width : Width) → {slot : ℕ} → IsSlotReached g width slot → is_kept g width slot ≡ true
 reached-kept g sound width {slot} (by_output c) =
     Contains-marked (marks_of g (leaves g width)) (roots g) slot (roots-marked g (leaves g width) sound) c
 reached-kept g sound width {slot} (by_gate {reader} r c) =
@@ -81,8 +81,8 @@ none_marked n t h = false≢true (sym (all_false n t) ∙ h)
     all_false (suc n) (suc t) = all_false n t
 
 -- what is marked the outputs reach
-pub kept-reached : (g : AigView) (width : Width) (slot : ℕ) → is_kept g width slot ≡ true → IsReached g width slot
+pub kept-reached : (g : AigView) (width : Width) (slot : ℕ) → is_kept g width slot ≡ true → IsSlotReached g width slot
 kept-reached g width slot h =
-    let R : ℕ → Type 0 = IsReached g width in
+    let R : ℕ → Type 0 = IsSlotReached g width in
     let zeros = replicate (slots g) false in
     reached-from R (gate_at g (leaves g width)) (λ reader s r c. by_gate r c) (slots g) (mark_all zeros (roots g)) (λ t m. elim (mark_all-cases zeros (roots g) t m) [ inl z ↦ absurd (none_marked (slots g) t z) | inr c ↦ by_output c ]) slot h

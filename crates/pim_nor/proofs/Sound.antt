@@ -1,5 +1,5 @@
 -- What `nors` gives is a network.
-use Rattle.std.proofs.Common.{◌≡◌, ◌≢◌, ◌⊎◌, ℕ, ◌+◌, ◌-◌, ◌*◌, ◌/◌, ◌%◌, ◌<◌, ◌≤◌, zero, suc, [], ◌∷◌, inl, inr, Bool, true, false, eqb, ◌||◌, List, length, get_or, map, replicate, sym, ◌∙◌, ap, subst, arith, count_by}
+use Rattle.std.proofs.Common.{◌≡◌, ◌≢◌, ◌⊎◌, ℕ, ◌+◌, ◌-◌, ◌*◌, ◌/◌, ◌%◌, ◌<◌, ◌≤◌, zero, suc, [], ◌∷◌, inl, inr, Bool, true, false, not, eqb, ◌||◌, List, length, get_or, map, replicate, sym, ◌∙◌, ap, subst, arith, count_by}
 use Rattle.std.proofs.lemmas.List.{length-replicate, length-map}
 use Rattle.std.proofs.lemmas.List.Sums.{count_by-le-length}
 use Rattle.std.proofs.lemmas.Bool.{cases_eq, cases_lt, cond-true, cond-false, eq-eqb, ne_eqb, or_left, or_right, or_from}
@@ -9,8 +9,9 @@ use Rattle.pim_aig.specs.Literals.{complement}
 use Rattle.pim_nor.specs.Leaves.{leaves}
 use Rattle.pim_nor.specs.Lowered.{roots, marks_of, network_at, network_of, nors}
 use Rattle.pim_nor.specs.Named.{slots, source, literal_at, gate_of, gate_at, nor_of_leaves}
-use Rattle.pim_nor.specs.Network.{pins, IsOfFirst, AreOfFirst, ReadsFirst, AreInputsOrFirst, IsNetwork}
-use Rattle.pim_nor.specs.Plans.{PlanView}
+use Rattle.pim_nor.specs.Network.{pins, IsOfFirst, AreOfFirst, ReadsFirst, is_nor, IsRead, IsNetwork}
+use Rattle.pim_nor.specs.inner.Pins.{AreInputsOrFirst}
+use Rattle.pim_nor.specs.inner.Plans.{PlanView}
 use Rattle.pim_nor.specs.Reached.{mark_all, numbered, numbered_gate, kept}
 use Rattle.pim_nor.specs.declared.lowering.Width.{Width}
 use Rattle.pim_nor.specs.declared.network.Gate.{Gate}
@@ -18,7 +19,7 @@ use Rattle.pim_nor.specs.declared.network.Gate.TheVariants.{One, Not}
 use Rattle.pim_nor.specs.declared.network.Pin.{Pin}
 use Rattle.pim_nor.specs.declared.network.Pin.TheVariants.{Input, Gate as Place}
 use Rattle.pim_nor.proofs.Closure.{AreMarked, ReadBefore, length-mark_all, length-reached, mark_all-marks, reached-keeps_all, reached-closed}
-use Rattle.pim_nor.proofs.LeafLists.{AllOf, IsBefore, IsAnd, AreLeaves, leaves-AreLeaves}
+use Rattle.pim_nor.proofs.LeafLists.{AllOf, IsBefore, IsAnd, AreLeaves}
 use Rattle.pim_nor.proofs.LiteralValues.{pins-nor_of}
 use Rattle.pim_nor.proofs.Numbering.{length-kept, get_or-kept, numbered_gate-AreOfFirst, numbered-IsOfFirst_all}
 use Rattle.pim_nor.proofs.SlotLiterals.{literal_low, literal_mid, literal_high}
@@ -173,8 +174,9 @@ gates-after g lists are k d l =
     let from_zero : 0 + r.slot ≡ r.slot = omega arith in
     subst Q (sym (r.gate_is ∙ ap gate from_zero)) (subst P r.number_is here)
 
-pub network_of-IsNetwork : (g : AigView) (lists : ℕ → List Lit) → IsAig g → AreLeaves g lists → IsNetwork (network_of g lists)
-network_of-IsNetwork g lists sound are =
+-- a network whose gates are read and have at most one constant one
+pub network_of-IsNetwork : (g : AigView) (lists : ℕ → List Lit) → IsAig g → AreLeaves g lists → ((k : ℕ) → k < length (network_of g lists).gates → IsRead (network_of g lists) k) → count_by (λ gate. not (is_nor gate)) (network_of g lists).gates ≤ 1 → IsNetwork (network_of g lists)
+network_of-IsNetwork g lists sound are read one_constant =
     let marks = marks_of g lists in
     let gate : ℕ → Gate = λ s. numbered_gate marks (gate_at g lists s) in
     let count : length (network_of g lists).gates ≡ count_by (λ b. b) marks = length-kept gate 0 marks in
@@ -188,13 +190,11 @@ network_of-IsNetwork g lists sound are =
       outs_fit = omega (arith, sound.outputs_fit);
       gates_after = gates-after g lists are;
       outs_there = λ k d l. let Q : ℕ → Type 0 = λ n. O n k d in subst Q (sym count) (outs-there marks g.inputs (roots g) (subst P (sym len) (roots-there g g.outputs sound.outputs_there)) (roots-marked g lists sound) k d (omega (arith, length-map (roots g) (numbered marks))));
+      read = read;
+      one_constant = one_constant;
     }
 
--- the network of each width is one
-pub nors-IsNetwork : (g : AigView) → IsAig g → (width : Width) → IsNetwork (nors g width)
-nors-IsNetwork g sound width = network_of-IsNetwork g (leaves g width) sound (leaves-AreLeaves g sound width)
-
--- the same, of lists that are equal to those of a network
+-- the network of lists that are equal to those of one
 pub network-is : (g : AigView) (lists : ℕ → List Lit) (marks : List Bool) (inputs : ℕ) (gates : List Gate) (outs : List Pin) → marks ≡ marks_of g lists → inputs ≡ g.inputs → gates ≡ kept (λ s. numbered_gate marks (gate_at g lists s)) 0 marks → outs ≡ map (numbered marks) (roots g) → (record { inputs = inputs; gates = gates; outs = outs }) ≡ network_of g lists
 network-is g lists marks inputs gates outs m i k o =
     ap (λ (n : ℕ). record { inputs = n; gates = gates; outs = outs }) i ∙ (ap (λ (x : List Gate). record { inputs = g.inputs; gates = x; outs = outs }) k ∙ (ap (λ (x : List Pin). record { inputs = g.inputs; gates = kept (λ s. numbered_gate marks (gate_at g lists s)) 0 marks; outs = x }) o ∙ ap (network_at g lists) m))

@@ -9,13 +9,13 @@ use Rattle.pim_nor.specs.declared.lowering.Width.{Width}
 use Rattle.pim_nor.specs.declared.lowering.Width.TheVariants.{Two, Four}
 
 -- 1 where the literal is of the node, else 0
-abbrev pub read_by : Lit → ℕ → ℕ
-read_by l n = if node l == n then 1 else 0
+abbrev pub literal_reads : Lit → ℕ → ℕ
+literal_reads l n = if node l == n then 1 else 0
 
 -- how often a node is an operand of these AND nodes
-abbrev pub reads : List And → ℕ → ℕ
-reads [] n = 0
-reads (a ∷ rest) n = read_by a.x n + read_by a.y n + reads rest n
+abbrev pub operand_reads : List And → ℕ → ℕ
+operand_reads [] n = 0
+operand_reads (a ∷ rest) n = literal_reads a.x n + literal_reads a.y n + operand_reads rest n
 
 -- one of these literals is of the node
 abbrev pub is_among : List Lit → ℕ → Bool
@@ -23,7 +23,7 @@ is_among ls n = list_any (λ l. node l == n) ls
 
 -- a node is single where it is an operand of AND nodes exactly once in all and no output's literal is of it
 abbrev pub is_single : AigView → ℕ → Bool
-is_single g n = (reads g.ands n == 1) && not (is_among g.outputs n)
+is_single g n = (operand_reads g.ands n == 1) && not (is_among g.outputs n)
 
 -- the AND node of a number
 abbrev pub and_at : AigView → ℕ → And

@@ -1,9 +1,10 @@
+pub mod inner
 pub mod GateGraphs
+pub mod Laws
 pub mod Leaves
 pub mod Lowered
 pub mod Named
 pub mod Network
-pub mod Plans
 pub mod Reached
 pub mod Reaching
 pub mod Values

@@ -37,14 +37,6 @@ nor_of (a ∷ b ∷ []) = Nor a b
 nor_of (a ∷ b ∷ c ∷ []) = Nor3 a b c
 nor_of (a ∷ b ∷ c ∷ d ∷ rest) = Nor4 a b c d
 
--- the gate that reads one more pin, and at most four
-abbrev pub reading : Gate → Pin → Gate
-reading One p = Not p
-reading (Not a) p = Nor a p
-reading (Nor a b) p = Nor3 a b p
-reading (Nor3 a b c) p = Nor4 a b c p
-reading (Nor4 a b c d) p = Nor4 a b c d
-
 -- the gate of an AND node's value: the NOR of its leaves' complements
 abbrev pub nor_of_leaves : ℕ → List Lit → Gate
 nor_of_leaves inputs leaves = nor_of (map (λ leaf. source inputs (complement leaf)) leaves)

@@ -1,9 +1,11 @@
 -- A NOR network as lists: its inputs, its gates with what they read, and what its outputs read.
-use Rattle.std.specs.Prelude.{ℕ, ◌<◌, ◌≤◌, Bool, true, false, List, [], ◌∷◌, length, count_by, slice_index_or}
+use Rattle.std.specs.Prelude.{ℕ, ◌<◌, ◌≤◌, ◌⊎◌, Bool, true, false, not, List, [], ◌∷◌, length, count_by, slice_index_or, Contains}
+use Rattle.pim_aig.specs.declared.graph.TheConstants.{MAX_INPUTS, MAX_OUTPUTS}
 use Rattle.pim_nor.specs.declared.network.Pin.{Pin}
 use Rattle.pim_nor.specs.declared.network.Pin.TheVariants.{Input, Gate as Place}
 use Rattle.pim_nor.specs.declared.network.Gate.{Gate}
 use Rattle.pim_nor.specs.declared.network.Gate.TheVariants.{One, Not, Nor, Nor3, Nor4}
+use Rattle.pim_nor.specs.declared.network.TheConstants.{MAX_GATES}
 
 -- what contracts see of a `NorNet`
 pub record NorView : Type 0 where
@@ -41,24 +43,25 @@ abbrev pub AreOfFirst : ℕ → ℕ → List Pin → Type 0
 AreOfFirst inputs gates [] = Unit {0}
 AreOfFirst inputs gates (p ∷ ps) = IsOfFirst inputs gates p × AreOfFirst inputs gates ps
 
--- the pin is an input or one of the first gates
-abbrev pub IsInputOrFirst : ℕ → Pin → Type 0
-IsInputOrFirst gates (Input j) = Unit {0}
-IsInputOrFirst gates (Place i) = i < gates
-
--- each of the pins is an input or one of the first gates
-abbrev pub AreInputsOrFirst : ℕ → List Pin → Type 0
-AreInputsOrFirst gates [] = Unit {0}
-AreInputsOrFirst gates (p ∷ ps) = IsInputOrFirst gates p × AreInputsOrFirst gates ps
-
 -- the gate reads inputs and some of the first gates alone
 abbrev pub ReadsFirst : ℕ → ℕ → Gate → Type 0
 ReadsFirst inputs gates gate = AreOfFirst inputs gates (pins gate)
 
--- each gate stands after those that it reads, the outputs read what is there, and the counts keep their limits
+-- one of the gates reads the gate of this number
+abbrev pub SomeReads : List Gate → ℕ → Type 0
+SomeReads gates k = (j : ℕ) × (j < length gates) × Contains (pins (slice_index_or gates j One)) (Place k)
+
+-- an output of the network or one of its gates reads the gate of this number
+abbrev pub IsRead : NorView → ℕ → Type 0
+IsRead n k = Contains n.outs (Place k) ⊎ SomeReads n.gates k
+
+-- each gate stands after those that it reads and is read itself, the outputs read what is there, there is at most one
+-- constant one, and the counts keep their limits
 pub record IsNetwork (n : NorView) : Type 0 where
-  pub inputs_fit : n.inputs ≤ 1048576
-  pub gates_fit : length n.gates ≤ 3145730
-  pub outs_fit : length n.outs ≤ 1048576
+  pub inputs_fit : n.inputs ≤ MAX_INPUTS
+  pub gates_fit : length n.gates ≤ MAX_GATES
+  pub outs_fit : length n.outs ≤ MAX_OUTPUTS
   pub gates_after : (k : ℕ) (d : Gate) → k < length n.gates → ReadsFirst n.inputs k (slice_index_or n.gates k d)
   pub outs_there : (k : ℕ) (d : Pin) → k < length n.outs → IsOfFirst n.inputs (length n.gates) (slice_index_or n.outs k d)
+  pub read : (k : ℕ) → k < length n.gates → IsRead n k
+  pub one_constant : count_by (λ gate. not (is_nor gate)) n.gates ≤ 1

@@ -1,7 +1,8 @@
 ghost use Rattle.std.specs.Prelude.{◌≡◌, ◌≤◌};
+ghost use Rattle.pim_aig.specs.declared.graph.TheConstants.{MAX_INPUTS};
 ghost use Rattle.pim_nor.specs.Leaves.{distinct};
 ghost use Rattle.pim_nor.specs.Named.{nor_of_leaves};
-ghost use Rattle.pim_nor.specs.Plans.{literals_of};
+ghost use Rattle.pim_nor.specs.inner.Plans.{leaf_literals};
 
 use crate::Gate;
 use crate::slots::source;
@@ -18,8 +19,8 @@ pub(crate) enum Leaves {
 impl Leaves {
     /// The NOR of their complements, where one that repeats an earlier one is read once.
     pub(crate) fn nor(self, inputs: u32) -> Gate
-        requires { inputs ≤ 1048576 }
-        ensures { result ≡ nor_of_leaves inputs (distinct (literals_of self)) }
+        requires { inputs ≤ MAX_INPUTS }
+        ensures { result ≡ nor_of_leaves inputs (distinct (leaf_literals self)) }
     {
         match self {
             Leaves::Two(x, y) => nor_of_leaves(inputs, &[x, y]),
@@ -31,7 +32,7 @@ impl Leaves {
 
 /// The NOR of the complements of these literals, of which one that repeats an earlier one is dropped.
 fn nor_of_leaves(inputs: u32, literals: &[Lit]) -> Gate
-    requires { inputs ≤ 1048576 }
+    requires { inputs ≤ MAX_INPUTS }
     ensures { result ≡ nor_of_leaves inputs (distinct literals.now) }
 {
     let mut gate = Gate::One;

@@ -16,4 +16,4 @@ mod slots;
 mod tests;
 
 pub use lowering::{Width, lower};
-pub use network::{Gate, NorNet, Pin};
+pub use network::{Gate, MAX_GATES, NorNet, Pin};

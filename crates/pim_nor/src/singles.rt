@@ -1,8 +1,8 @@
 ghost use Rattle.std.specs.Prelude.{◌≡◌, ◌==◌, ◌+◌, ◌*◌, ◌^◌, ◌<◌, ◌≤◌, ℕ, length, slice_index, slice_set, if◌then◌else◌, IfOk, vec_len};
 ghost use Rattle.pim_aig.specs.Graph.{IsAig, nodes};
 ghost use Rattle.pim_aig.specs.Literals.{node};
-ghost use Rattle.pim_nor.specs.Leaves.{is_among, reads};
-ghost use Rattle.pim_nor.specs.Plans.{TellsSingle};
+ghost use Rattle.pim_nor.specs.Leaves.{is_among, operand_reads};
+ghost use Rattle.pim_nor.specs.inner.Plans.{TellsSingle};
 
 use pim_aig::{Aig, Lit};
 use pim_io::NoMemory;
@@ -23,7 +23,7 @@ fn count(counts: &mut Vec<u32>, literal: Lit)
 fn read_counts(alloc: Global, aig: &Aig) -> Result<Vec<u32>, NoMemory>
     ensures len { IfOk result (λ counts. vec_len counts ≡ nodes aig.now) }
     ensures counts { IfOk result (λ counts. (n : ℕ) → n < nodes aig.now →
-        slice_index counts.items n ≡ reads aig.now.ands n) }
+        slice_index counts.items n ≡ operand_reads aig.now.ands n) }
     ensures sound { IsAig aig.now }
 {
     let nodes = 1 + aig.inputs() as usize + aig.ands().len();

@@ -1,17 +1,16 @@
 ghost use Rattle.std.specs.Prelude.{◌≡◌, ◌+◌, ◌*◌, ◌<◌, ◌≤◌};
+ghost use Rattle.pim_aig.specs.declared.graph.TheConstants.{MAX_INPUTS};
 ghost use Rattle.pim_nor.specs.Named.{literal_at, source};
+ghost use Rattle.pim_nor.specs.declared.network.TheConstants.{MAX_GATES};
 
 use crate::Pin;
-use pim_aig::{Lit, MAX_ANDS, MAX_INPUTS};
-
-/// The most slots of a graph: two for the constants, one for each input, and two for each AND node.
-const MAX_SLOTS: u32 = 2 + MAX_INPUTS + 2 * MAX_ANDS;
+use pim_aig::Lit;
 
 /// The literal that the gate of a slot has the value of. Slot 0 is true and slot 1 false; then come the complements of
 /// the inputs, the last input's first, and for each AND node its value and its complement.
 pub(crate) fn literal_at(inputs: u32, slot: u32) -> Lit
-    requires inputs_fit { inputs ≤ 1048576 }
-    requires slot_fits { slot ≤ MAX_SLOTS }
+    requires inputs_fit { inputs ≤ MAX_INPUTS }
+    requires slot_fits { slot ≤ MAX_GATES }
     ensures { result ≡ literal_at inputs slot }
 {
     if slot < 2 {
@@ -25,7 +24,7 @@ pub(crate) fn literal_at(inputs: u32, slot: u32) -> Lit
 
 /// The input or the slot that has the value of a literal.
 pub(crate) fn source(inputs: u32, literal: Lit) -> Pin
-    requires { inputs ≤ 1048576 }
+    requires { inputs ≤ MAX_INPUTS }
     ensures { result ≡ source inputs literal }
 {
     let node = literal.node();

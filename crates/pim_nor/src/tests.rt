@@ -1,4 +1,5 @@
 ghost use Rattle.std.specs.Prelude.{◌≤◌};
+ghost use Rattle.pim_aig.specs.declared.graph.TheConstants.{MAX_INPUTS};
 
 use crate::{Gate, NorNet, Pin, Width, lower};
 use pim_aig::{Aig, Lit, MAX_ANDS, MAX_OUTPUTS};
@@ -35,7 +36,7 @@ fn network(
     outputs: &[u32],
     width: Width,
 ) -> Result<NorNet, Fail>
-    requires { inputs ≤ 1048576 }
+    requires { inputs ≤ MAX_INPUTS }
 {
     let mut aig = Aig::new(alloc, inputs);
     for (x, y) in ands {

@@ -3,8 +3,8 @@ use Rattle.std.proofs.Common.{◌≡◌, ℕ, zero, suc, ◌+◌, ◌-◌, ◌<�
 use Rattle.std.proofs.Math.Seq.{take-append-add}
 use Rattle.std.proofs.lemmas.Bool.{cases_lt, lt-ltb, le-ltb}
 use Rattle.std.proofs.lemmas.List.{take-append-drop}
-use Rattle.pim_io.specs.Lines.{is_newline}
-use Rattle.pim_vectors.specs.Lines.{last_line, line_len, lines, lines_after, without_return}
+use Rattle.pim_io.specs.Lines.{is_newline, without_return}
+use Rattle.pim_vectors.specs.Lines.{last_line, line_len, lines, lines_after}
 use Rattle.pim_top.specs.Judged.{last_piece, last_piece_after, settled}
 
 -- ---- bytes behind bytes that end a line

@@ -3,12 +3,13 @@ use Rattle.std.proofs.Common.{◌≡◌, ℕ, ◌+◌, ◌-◌, ◌<◌, ◌≤�
 use Rattle.std.proofs.lemmas.Bool.{cases_lt, le-leb, le-ltb, lt-ltb}
 use Rattle.std.proofs.lemmas.Bool.Decides.{nat_tests}
 use Rattle.std.proofs.lemmas.List.{length-take-le, take-append-drop, take-append-le, take_all, drop_all}
-use Rattle.pim_vectors.specs.Lines.{last_line, line_len, lines, without_return}
+use Rattle.pim_io.specs.Lines.{without_return}
+use Rattle.pim_vectors.specs.Lines.{last_line, line_len, lines}
 use Rattle.pim_vectors.specs.Next.{LinesView, ended, handed, next_of, within_limit}
 use Rattle.pim_vectors.specs.declared.fault.LinesFault.{LinesFault}
 use Rattle.pim_vectors.specs.declared.fault.LinesFault.TheVariants as faults
 use Rattle.pim_top.specs.Judged.{judged_within, last_piece, settled}
-use Rattle.pim_top.specs.declared.limits.TheConstants.{MAX_INPUT}
+use Rattle.pim_io.specs.declared.limits.TheConstants.{MAX_INPUT}
 use Rattle.pim_top.proofs.JudgedLines.{first-line, line_len-le, line_len-take, lines-append, lines-none, piece-none, settled-append}
 
 -- how many bytes may still belong to lines

@@ -10,7 +10,7 @@ use Rattle.std.proofs.lemmas.List.{take-append-drop, take_all}
 use Rattle.std.proofs.lemmas.List.Elements.{All-head, All-tail}
 use Rattle.pim_io.specs.Bits.{bits_of}
 use Rattle.pim_io.specs.Outside.{Told}
-use Rattle.pim_vectors.specs.Lines.{line_len, lines, without_return}
+use Rattle.pim_vectors.specs.Lines.{line_len, lines}
 use Rattle.pim_vectors.specs.Next.{IsAfter, LinesView, handed, next_of}
 use Rattle.pim_vectors.specs.Tiles.{IsVector}
 use Rattle.pim_vectors.specs.declared.fault.LinesFault.{LinesFault}
@@ -18,7 +18,7 @@ use Rattle.pim_vectors.specs.declared.fault.LinesFault.TheVariants as faults
 use Rattle.pim_vectors.specs.declared.limits.TheConstants.{MAX_LINES}
 use Rattle.pim_top.specs.Judged.{behind_lines, first_refusal, fitting, fitting_lines, input_refusal, is_vector, judged_lines, judged_within, last_piece, settled}
 use Rattle.pim_top.specs.declared.judgement.Judgement.TheVariants as judgement
-use Rattle.pim_top.specs.declared.limits.TheConstants.{MAX_INPUT}
+use Rattle.pim_io.specs.declared.limits.TheConstants.{MAX_INPUT}
 use Rattle.pim_top.specs.declared.refusal.Origin.TheVariants as origin
 use Rattle.pim_top.specs.declared.refusal.Refusal.{Refusal}
 use Rattle.pim_top.specs.declared.refusal.Refusal.TheVariants as refusal

@@ -6,7 +6,7 @@ use Rattle.pim_io.specs.Lines.{is_newline}
 use Rattle.pim_vectors.specs.Lines.{lines}
 use Rattle.pim_vectors.specs.declared.limits.TheConstants.{MAX_LINES}
 use Rattle.pim_top.specs.declared.judgement.Judgement.TheVariants.{TooManyLines, Vector}
-use Rattle.pim_top.specs.declared.limits.TheConstants.{MAX_INPUT}
+use Rattle.pim_io.specs.declared.limits.TheConstants.{MAX_INPUT}
 use Rattle.pim_top.specs.declared.refusal.Origin.TheVariants.{Input}
 use Rattle.pim_top.specs.declared.refusal.Refusal.{Refusal}
 use Rattle.pim_top.specs.declared.refusal.Refusal.TheVariants.{Judged, TooLong}

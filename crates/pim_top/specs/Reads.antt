@@ -4,7 +4,7 @@ use Rattle.pim_io.specs.Outside.{Told}
 use Rattle.pim_words.specs.declared.command.Command.{Command}
 use Rattle.pim_words.specs.declared.command.Command.TheVariants.{Compile, Run}
 use Rattle.pim_top.specs.Streams.{IsRead, IsUntouched, Seen, Stream}
-use Rattle.pim_top.specs.declared.limits.TheConstants.{MAX_INPUT, MAX_PROGRAM}
+use Rattle.pim_io.specs.declared.limits.TheConstants.{MAX_INPUT, MAX_PROGRAM}
 use Rattle.pim_top.specs.declared.refusal.Origin.{Origin}
 use Rattle.pim_top.specs.declared.refusal.Origin.TheVariants.{Input, Program}
 

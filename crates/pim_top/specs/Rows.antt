@@ -5,7 +5,7 @@ use Rattle.pim_top.specs.Answers.{IsWanting}
 use Rattle.pim_top.specs.Streams.{HasFailed, IsOverrun, IsRead, IsUntouched, Seen, Stream}
 use Rattle.pim_top.specs.Walks.{WalkEnds}
 use Rattle.pim_top.specs.declared.judgement.Judgement.{Judgement}
-use Rattle.pim_top.specs.declared.limits.TheConstants.{MAX_PROGRAM}
+use Rattle.pim_io.specs.declared.limits.TheConstants.{MAX_PROGRAM}
 use Rattle.pim_top.specs.declared.refusal.Origin.TheVariants.{Program}
 use Rattle.pim_top.specs.declared.refusal.Refusal.{Refusal}
 use Rattle.pim_top.specs.declared.refusal.Refusal.TheVariants.{Judged, NoMemory, ReadFault, TooLong}

@@ -5,7 +5,6 @@
 
 mod commands;
 mod judgement;
-mod limits;
 mod netlist;
 mod note;
 mod reading;

@@ -3,12 +3,16 @@ use Rattle.std.proofs.Common.{◌≡◌, ℕ, ◌+◌, ◌-◌, ◌<◌, ◌≤�
 use Rattle.std.specs.Borrow.{Bor}
 use Rattle.std.proofs.lemmas.List.{length-append, length-drop, length-take, take-take, drop-take, drop-drop}
 use Rattle.pim_io.specs.Outside.{Told}
-use Rattle.pim_vectors.specs.declared.limits.TheConstants.{MAX_BYTES}
+use Rattle.pim_io.specs.declared.limits.TheConstants.{MAX_INPUT}
 use Rattle.pim_vectors.specs.declared.fault.LinesFault.{LinesFault}
 use Rattle.pim_vectors.specs.declared.fault.LinesFault.TheVariants as faults
 use Rattle.pim_vectors.specs.declared.sizes.Sizes.{Sizes}
-use Rattle.pim_vectors.specs.Lines.{without_return, lines, line_len}
-use Rattle.pim_vectors.specs.Next.{LinesView, handed, ended, within_limit, next_of, NoNewline, Took, IsAfter, IsNext, IsEnd}
+use Rattle.pim_io.specs.Lines.{without_return}
+use Rattle.pim_vectors.specs.Lines.{lines, line_len}
+use Rattle.pim_vectors.specs.Next.{LinesView, handed, ended, within_limit, next_of, IsAfter}
+use Rattle.pim_vectors.specs.inner.Found.{NoNewline}
+use Rattle.pim_vectors.specs.inner.Taken.{Took}
+use Rattle.pim_vectors.specs.inner.NextLine.{IsNext, IsEnd}
 use Rattle.pim_vectors.proofs.Taking.{line_len-none}
 use Rattle.pim_vectors.proofs.NextLemmas.{told_map, told_both}
 
@@ -52,7 +56,7 @@ fault_of_err : (r : Result (Option (Bor (List ℕ))) LinesFault) (e f : LinesFau
 fault_of_err r e f h k = cc
 
 pub after_refused : (old v : LinesView) (a b : Option (List ℕ)) (e : LinesFault) → Took old a b v → (e ≡ faults.Fault → NoNewline v.held (length v.held)) →
-    (e ≡ faults.Fault → length v.held < v.longest + 2) → (e ≡ faults.Fault → v.place + length v.held ≤ MAX_BYTES) → IsAfter old a b (Err e) v
+    (e ≡ faults.Fault → length v.held < v.longest + 2) → (e ≡ faults.Fault → v.place + length v.held ≤ MAX_INPUT) → IsAfter old a b (Err e) v
 after_refused old v a b e took waits short within = record {
   longest = took.longest;
   given = omega (arith, took.given);
@@ -79,7 +83,7 @@ pub after_line : (old v new : LinesView) (text : Bor (List ℕ)) (a b : Option (
     new.longest ≡ v.longest → new.given ≡ v.given + 1 → new.place ≡ v.place + s.whole → new.held ≡ drop s.whole v.held → text.now ≡ take s.text v.held →
     IsAfter old a b (Ok (Some text)) new
 after_line old v new text a b s took next longest given place held text_is =
-    let within : s.whole ≤ length v.held = omega (arith, next.within, length-take (MAX_BYTES - v.place) v.held) in
+    let within : s.whole ≤ length v.held = omega (arith, next.within, length-take (MAX_INPUT - v.place) v.held) in
     record {
       longest = longest ∙ took.longest;
       given = omega (arith, given, took.given);
@@ -129,4 +133,4 @@ answer_of_line v a b s text next is =
 pub whole_within : (v : LinesView) (a b : Option (List ℕ)) (s : Sizes) (items : List ℕ) (start end : ℕ) → IsNext v a b s →
     take (end - start) (drop start items) ≡ v.held → start ≤ end → start + s.whole ≤ end
 whole_within v a b s items start end next held ordered =
-    omega (arith, next.within, length-take (MAX_BYTES - v.place) v.held, ap length held, length-take (end - start) (drop start items))
+    omega (arith, next.within, length-take (MAX_INPUT - v.place) v.held, ap length held, length-take (end - start) (drop start items))

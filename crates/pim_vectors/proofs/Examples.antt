@@ -1,11 +1,12 @@
 -- Worked examples of the definitions, by computation.
 use Rattle.std.proofs.Common.{◌≡◌, true, false, [], ◌∷◌, Some, None, Ok, Err, refl}
 use Rattle.pim_vectors.specs.declared.fault.LinesFault.TheVariants as faults
-use Rattle.pim_vectors.specs.Lines.{without_return, lines}
+use Rattle.pim_io.specs.Lines.{without_return}
+use Rattle.pim_vectors.specs.Lines.{lines}
 use Rattle.pim_vectors.specs.Next.{LinesView, next_of}
 use Rattle.pim_io.specs.Lanes.{is_set, lane, column_in}
 use Rattle.pim_io.specs.Bits.{bits_of, line_of}
-use Rattle.pim_vectors.specs.Tiles.{row_of}
+use Rattle.pim_vectors.specs.Tiles.{vector_of}
 
 -- ---- lines: the bytes 10 and 13 are a newline and a carriage return, 48 and 49 are 0 and 1
 three_lines : lines (49 ∷ 13 ∷ 10 ∷ 10 ∷ 48 ∷ []) ≡ (49 ∷ []) ∷ [] ∷ (48 ∷ []) ∷ []
@@ -82,8 +83,8 @@ second_column : column_in 2 (1 ∷ 2 ∷ 3 ∷ 4 ∷ []) 1 ≡ 3 ∷ 4 ∷ []
 unfolding column_in
 second_column = refl
 
-third_row : row_of (record { columns = 2; words = 1; buffer = 4 ∷ 3 ∷ [] }) 2 ≡ true ∷ false ∷ []
-unfolding row_of column_in lane is_set
+third_row : vector_of (record { columns = 2; words = 1; buffer = 4 ∷ 3 ∷ [] }) 2 ≡ true ∷ false ∷ []
+unfolding vector_of column_in lane is_set
 third_row = refl
 
 bits_of_a_line : bits_of (49 ∷ 48 ∷ []) ≡ true ∷ false ∷ []

@@ -4,14 +4,18 @@ use Rattle.std.proofs.lemmas.Bool.{cases_lt, cases_Bool, lt-ltb, le-ltb}
 use Rattle.std.proofs.lemmas.List.{append-nil, append_assoc, length-append, length-take, length-take-le, get_or-take, get_or_append_left, take-take, take-append-le, take_all, take-append-drop, drop-append-le, drop_all, drop_more, nil_from_length}
 use Rattle.pim_io.specs.Lines.{is_newline}
 use Rattle.pim_io.specs.Outside.{Told}
-use Rattle.pim_vectors.specs.declared.limits.TheConstants.{MAX_LINES, MAX_BYTES}
+use Rattle.pim_io.specs.declared.limits.TheConstants.{MAX_INPUT}
+use Rattle.pim_vectors.specs.declared.limits.TheConstants.{MAX_LINES}
 use Rattle.pim_vectors.specs.declared.fault.LinesFault.{LinesFault}
 use Rattle.pim_vectors.specs.declared.fault.LinesFault.TheVariants as faults
 use Rattle.pim_vectors.specs.declared.found.Found.{Found}
 use Rattle.pim_vectors.specs.declared.found.Found.TheVariants as found
 use Rattle.pim_vectors.specs.declared.sizes.Sizes.{Sizes}
-use Rattle.pim_vectors.specs.Lines.{without_return, last_line, lines_after, lines, line_len}
-use Rattle.pim_vectors.specs.Next.{LinesView, handed, ended, judged, within_limit, next_of, found_text, whole_len, NoNewline, IsFound, IsOver, IsNext, IsEnd}
+use Rattle.pim_io.specs.Lines.{without_return}
+use Rattle.pim_vectors.specs.Lines.{last_line, lines_after, lines, line_len}
+use Rattle.pim_vectors.specs.Next.{LinesView, handed, ended, judged, within_limit, next_of}
+use Rattle.pim_vectors.specs.inner.Found.{found_text, whole_len, NoNewline, IsFound, IsOver}
+use Rattle.pim_vectors.specs.inner.NextLine.{IsNext, IsEnd}
 use Rattle.pim_vectors.proofs.Taking.{line_len-none}
 
 -- ---- where bytes are told
@@ -83,7 +87,7 @@ line_answer : (v : LinesView) (n : List ℕ) (k : ℕ) → k < length (within_li
     next_of v (v.held ++ n) ≡ handed v (without_return (take k v.held))
 unfolding next_of
 line_answer v n k within none here =
-    let room : ℕ = MAX_BYTES - v.place in
+    let room : ℕ = MAX_INPUT - v.place in
     let piece : List ℕ = take room (v.held ++ n) in
     let small : k < length piece = omega (arith, length-piece v.held n room) in
     let at : line_len piece ≡ k = line_len-found piece k small (none-piece v.held n room k (omega arith) none) (ap is_newline (get_or-piece v.held n room k within) ∙ here) in
@@ -96,7 +100,7 @@ unfolding next_of
 long_answer v n m count none long = by_cases (cases_lt (line_len piece) (length piece))
   where
     room : ℕ
-    room = MAX_BYTES - v.place
+    room = MAX_INPUT - v.place
 
     piece : List ℕ
     piece = take room (v.held ++ n)
@@ -122,17 +126,17 @@ long_answer v n m count none long = by_cases (cases_lt (line_len piece) (length 
         (ended-some v piece (omega (arith, enough, long)) ∙ handed-long v piece (take m v.held) (omega (arith, enough, long)) (omega (arith, long, held)))
 
 -- the end of the source: a last piece
-end_answer : (v : LinesView) → length v.held ≤ MAX_BYTES - v.place → NoNewline v.held (length v.held) → next_of v (v.held ++ []) ≡ ended v v.held
+end_answer : (v : LinesView) → length v.held ≤ MAX_INPUT - v.place → NoNewline v.held (length v.held) → next_of v (v.held ++ []) ≡ ended v v.held
 unfolding next_of
 end_answer v within none =
-    let piece : take (MAX_BYTES - v.place) v.held ≡ v.held = take_all (MAX_BYTES - v.place) v.held within in
+    let piece : take (MAX_INPUT - v.place) v.held ≡ v.held = take_all (MAX_INPUT - v.place) v.held within in
     rw (append-nil v.held, piece, line_len-none v.held none, le-ltb (length v.held) (length v.held) (omega arith)) refl
 
 -- a byte over the limit
 over_answer : (v : LinesView) (n : List ℕ) → IsOver v → next_of v (v.held ++ n) ≡ Err faults.TooLong
 unfolding next_of
 over_answer v n over =
-    let room : ℕ = MAX_BYTES - v.place in
+    let room : ℕ = MAX_INPUT - v.place in
     let same : take room (v.held ++ n) ≡ take room v.held = take-append-le room v.held n (omega (arith, over.over)) in
     let count : length (take room v.held) ≡ room = length-take-le room v.held (omega (arith, over.over)) in
     let none : line_len (take room v.held) ≡ length (take room v.held) =
@@ -189,7 +193,7 @@ found_answer v a b P (found.Rest m) base is some =
     elim is.2 [
       | inl long ↦ told_map a b P Q (λ x y h. long_answer v y m is.0 is.1 long) base
       | inr end ↦
-          let all : take (MAX_BYTES - v.place) v.held ≡ v.held = take_all (MAX_BYTES - v.place) v.held end.1 in
+          let all : take (MAX_INPUT - v.place) v.held ≡ v.held = take_all (MAX_INPUT - v.place) v.held end.1 in
           let count : m ≡ length v.held = is.0 ∙ ap length all in
           told_map a b (λ x y. y ≡ []) Q
           (λ x y none.
@@ -207,7 +211,7 @@ found_end v a b (found.Rest m) is none =
     elim is.2 [
       | inl long ↦ absurd (omega arith)
       | inr end ↦
-          let all : take (MAX_BYTES - v.place) v.held ≡ v.held = take_all (MAX_BYTES - v.place) v.held end.1 in
+          let all : take (MAX_INPUT - v.place) v.held ≡ v.held = take_all (MAX_INPUT - v.place) v.held end.1 in
           let empty : v.held ≡ [] = nil_from_length v.held (sym (ap length all) ∙ sym is.0 ∙ none) in
           told_map a b (λ x y. y ≡ []) (λ x y. (next_of v (v.held ++ y) ≡ Ok None) × (v.held ++ y ≡ []))
           (λ x y spent. (
@@ -224,7 +228,7 @@ pub found_next : (v : LinesView) (a b : Option (List ℕ)) (P : List ℕ → Lis
     0 < s.whole → s.whole ≡ whole_len f → s.text ≤ s.whole → take s.text v.held ≡ found_text v f → v.given < MAX_LINES → s.text ≤ v.longest →
     handed v (take s.text v.held) ≡ Ok (Some (take s.text v.held)) → IsNext v a b s
 found_next v a b P (found.Line k) s base is some whole short text more fits ok =
-    let within : k < length v.held = omega (arith, length-take (MAX_BYTES - v.place) v.held, is.0) in
+    let within : k < length v.held = omega (arith, length-take (MAX_INPUT - v.place) v.held, is.0) in
     record {
       short = short;
       some = some;
@@ -247,11 +251,11 @@ found_next v a b P (found.Line k) s base is some whole short text more fits ok =
 found_next v a b P (found.Rest m) s base is some whole short text more fits ok =
     elim is.2 [
       | inl long ↦
-          let within : m ≤ length v.held = omega (arith, length-take (MAX_BYTES - v.place) v.held, is.0) in
+          let within : m ≤ length v.held = omega (arith, length-take (MAX_INPUT - v.place) v.held, is.0) in
           let count : s.text ≡ m = sym (length-take-le s.text v.held (omega arith)) ∙ ap length text ∙ length-take-le m v.held within in
           absurd (omega arith)
       | inr end ↦
-          let all : take (MAX_BYTES - v.place) v.held ≡ v.held = take_all (MAX_BYTES - v.place) v.held end.1 in
+          let all : take (MAX_INPUT - v.place) v.held ≡ v.held = take_all (MAX_INPUT - v.place) v.held end.1 in
           let count : m ≡ length v.held = is.0 ∙ ap length all in
           let none : NoNewline v.held (length v.held) = λ k small. is.1 k (omega arith) in
           let held : take s.text v.held ≡ v.held = text ∙ take_all m v.held (omega arith) in
@@ -288,8 +292,8 @@ found_refused v a b P f s e base is some text refused =
 
 -- the bytes of what was found are held
 pub found_within : (v : LinesView) (a b : Option (List ℕ)) (f : Found) → IsFound v a b f → whole_len f ≤ length v.held
-found_within v a b (found.Line k) is = omega (arith, is.0, length-take (MAX_BYTES - v.place) v.held)
-found_within v a b (found.Rest m) is = omega (arith, is.0, length-take (MAX_BYTES - v.place) v.held)
+found_within v a b (found.Line k) is = omega (arith, is.0, length-take (MAX_INPUT - v.place) v.held)
+found_within v a b (found.Rest m) is = omega (arith, is.0, length-take (MAX_INPUT - v.place) v.held)
 
 -- how long the text is that is cut off
 pub text_len : (v : LinesView) (s : Sizes) (n : ℕ) → s.text ≤ s.whole → s.whole ≡ n → n ≤ length v.held → length (take s.text v.held) ≡ s.text

@@ -7,7 +7,9 @@ use Rattle.std.proofs.Math.Seq.{take-add}
 use Rattle.pim_io.specs.Outside.{Gave, Told}
 use Rattle.pim_io.specs.Lines.{is_newline}
 use Rattle.pim_vectors.specs.Lines.{line_len}
-use Rattle.pim_vectors.specs.Next.{LinesView, Took, NoNewline}
+use Rattle.pim_vectors.specs.Next.{LinesView}
+use Rattle.pim_vectors.specs.inner.Taken.{Took}
+use Rattle.pim_vectors.specs.inner.Found.{NoNewline}
 
 -- what a source gave stands behind what was held
 told_more : (a b : Option (List ℕ)) (old new gave : List ℕ) → new ≡ old ++ gave → Gave a b gave → Told a b (λ x y. new ++ y ≡ old ++ x)

@@ -8,7 +8,9 @@ use Rattle.std.proofs.lemmas.List.FromFn.{length-map-range_with_len, get_or-map-
 use Rattle.std.proofs.lemmas.Nat.Bits.{shr_and_one, bit_at_set_same, bit_at_set_other, bit_at_clear_same, bit_at_clear_other, bit_at-zero}
 use Rattle.pim_io.specs.Lanes.{is_set, lane, column_in, with_words}
 use Rattle.pim_io.specs.Bits.{bits_of, digit_of, line_of}
-use Rattle.pim_vectors.specs.Tiles.{TileView, lane_at, column_of, with_column, row_of, IsRow, IsTile}
+use Rattle.pim_vectors.specs.Tiles.{TileView, column_of, with_column, vector_of, IsLane}
+use Rattle.pim_vectors.specs.inner.Cells.{lane_at}
+use Rattle.pim_vectors.specs.inner.Kept.{IsTile}
 
 -- ---- one bit of a word
 pub is_set-shifted : (n i : ℕ) → eqb (bit_and (n / 2 ^ i) 1) 1 ≡ is_set n i
@@ -93,31 +95,31 @@ lane_at-set w buffer k row word b row_small within bits c r small = by_cases (ca
         ]
 
 -- ---- the rows of a tile
-pub length-row_of : (t : TileView) (r : ℕ) → length (row_of t r) ≡ t.columns
-unfolding row_of
-length-row_of t r = length-map-range_with_len (λ (c : ℕ). lane (column_of t c) r) 0 t.columns
+pub length-vector_of : (t : TileView) (r : ℕ) → length (vector_of t r) ≡ t.columns
+unfolding vector_of
+length-vector_of t r = length-map-range_with_len (λ (c : ℕ). lane (column_of t c) r) 0 t.columns
 
-pub get_or-row_of : (t : TileView) (r c : ℕ) → IsRow t r → c < t.columns → get_or (row_of t r) c false ≡ lane_at t.words t.buffer c r
-unfolding row_of
-get_or-row_of t r c row small =
+pub get_or-vector_of : (t : TileView) (r c : ℕ) → IsLane t r → c < t.columns → get_or (vector_of t r) c false ≡ lane_at t.words t.buffer c r
+unfolding vector_of
+get_or-vector_of t r c row small =
     get_or-map-range_with_len (λ (c : ℕ). lane (column_of t c) r) 0 t.columns c c false small (omega arith)
     ∙ lane-column t.words t.buffer c r row
 
 -- a row is that list whose bits are its lanes
-row_from_lanes : (t : TileView) (r : ℕ) (bits : List Bool) → IsRow t r → length bits ≡ t.columns →
-    ((c : ℕ) → c < t.columns → lane_at t.words t.buffer c r ≡ get_or bits c false) → row_of t r ≡ bits
+row_from_lanes : (t : TileView) (r : ℕ) (bits : List Bool) → IsLane t r → length bits ≡ t.columns →
+    ((c : ℕ) → c < t.columns → lane_at t.words t.buffer c r ≡ get_or bits c false) → vector_of t r ≡ bits
 row_from_lanes t r bits row long lanes =
-    ext_get_or false (row_of t r) bits (length-row_of t r ∙ sym long)
+    ext_get_or false (vector_of t r) bits (length-vector_of t r ∙ sym long)
     (λ c within.
-    let small : c < t.columns = omega (arith, length-row_of t r) in
-    get_or-row_of t r c row small ∙ lanes c small)
+    let small : c < t.columns = omega (arith, length-vector_of t r) in
+    get_or-vector_of t r c row small ∙ lanes c small)
 
 -- a line was packed into a row
 pub packed_rows : (view t : TileView) (old new items : List ℕ) (row : ℕ) (line : List ℕ) → view ≡ t → items ≡ new → old ≡ view.buffer → length line ≡ t.columns →
     ((c r : ℕ) → r < 64 * view.words → lane_at view.words new c r ≡ cond (ltb c (length line) && eqb r row) (eqb (get_or line c 0) 49) (lane_at view.words old c r)) →
-    (r : ℕ) → IsRow t r → row_of (record view { buffer = items }) r ≡ cond (eqb r row) (bits_of line) (row_of t r)
+    (r : ℕ) → IsLane t r → vector_of (record view { buffer = items }) r ≡ cond (eqb r row) (bits_of line) (vector_of t r)
 packed_rows view t old new items row line is items_are old_is long lanes =
-    let P : TileView → Type 0 = λ t. length line ≡ t.columns → (r : ℕ) → IsRow t r → row_of (record view { buffer = items }) r ≡ cond (eqb r row) (bits_of line) (row_of t r) in
+    let P : TileView → Type 0 = λ t. length line ≡ t.columns → (r : ℕ) → IsLane t r → vector_of (record view { buffer = items }) r ≡ cond (eqb r row) (bits_of line) (vector_of t r) in
     subst P is (λ long r row_small.
     let after : TileView = record view { buffer = items } in
     let lane_is : (c : ℕ) → c < view.columns → lane_at view.words items c r ≡ cond (eqb r row) (eqb (get_or line c 0) 49) (lane_at view.words view.buffer c r) =
@@ -132,31 +134,31 @@ packed_rows view t old new items row line is items_are old_is long lanes =
           lane_is c small ∙ ap (λ (x : Bool). cond x (eqb (get_or line c 0) 49) (lane_at view.words view.buffer c r)) (eq-eqb r row same)
           ∙ sym (get_or-map (λ (b : ℕ). eqb b 49) line c 0 false (omega arith))))
       | inr other ↦
-          rw (ne_eqb r row other) (row_from_lanes after r (row_of view r) row_small (length-row_of view r)
+          rw (ne_eqb r row other) (row_from_lanes after r (vector_of view r) row_small (length-vector_of view r)
           (λ c small.
           lane_is c small ∙ ap (λ (x : Bool). cond x (eqb (get_or line c 0) 49) (lane_at view.words view.buffer c r)) (ne_eqb r row other)
-          ∙ sym (get_or-row_of view r c row_small small)))
+          ∙ sym (get_or-vector_of view r c row_small small)))
     ]) long
 
 -- the line that a row is unpacked to
-pub unpacked : (view t : TileView) (buffer : List ℕ) (n row : ℕ) → view ≡ t → buffer ≡ view.buffer → n ≡ t.columns → IsRow t row →
-    map (λ (c : ℕ). digit_of (lane_at view.words buffer c row)) (range_with_len 0 n) ≡ line_of (row_of t row)
+pub unpacked : (view t : TileView) (buffer : List ℕ) (n row : ℕ) → view ≡ t → buffer ≡ view.buffer → n ≡ t.columns → IsLane t row →
+    map (λ (c : ℕ). digit_of (lane_at view.words buffer c row)) (range_with_len 0 n) ≡ line_of (vector_of t row)
 unpacked view t buffer n row is buffer_is =
     let f : ℕ → ℕ = λ (c : ℕ). digit_of (lane_at view.words buffer c row) in
-    let P : TileView → Type 0 = λ t. n ≡ t.columns → IsRow t row → map f (range_with_len 0 n) ≡ line_of (row_of t row) in
+    let P : TileView → Type 0 = λ t. n ≡ t.columns → IsLane t row → map f (range_with_len 0 n) ≡ line_of (vector_of t row) in
     subst P is (λ n_is small.
-    ext_get_or 0 (map f (range_with_len 0 n)) (line_of (row_of view row))
-    (length-map-range_with_len f 0 n ∙ n_is ∙ sym (length-map (row_of view row) digit_of ∙ length-row_of view row))
+    ext_get_or 0 (map f (range_with_len 0 n)) (line_of (vector_of view row))
+    (length-map-range_with_len f 0 n ∙ n_is ∙ sym (length-map (vector_of view row) digit_of ∙ length-vector_of view row))
     (λ c within.
     let below : c < n = omega (arith, length-map-range_with_len f 0 n) in
     get_or-map-range_with_len f 0 n c c 0 below (omega arith)
     ∙ ap (λ (l : List ℕ). digit_of (lane_at view.words l c row)) buffer_is
-    ∙ ap digit_of (sym (get_or-row_of view row c small (omega arith)))
-    ∙ sym (get_or-map digit_of (row_of view row) c false 0 (omega (arith, length-row_of view row)))))
+    ∙ ap digit_of (sym (get_or-vector_of view row c small (omega arith)))
+    ∙ sym (get_or-map digit_of (vector_of view row) c false 0 (omega (arith, length-vector_of view row)))))
 
 -- a new tile
 pub new_rows : (columns w : ℕ) (items : List ℕ) → items ≡ replicate (columns * w) 0 → (r : ℕ) → r < 64 * w →
-    row_of (record { columns = columns; words = w; buffer = items }) r ≡ replicate columns false
+    vector_of (record { columns = columns; words = w; buffer = items }) r ≡ replicate columns false
 unfolding lane_at
 new_rows columns w items is r small =
     row_from_lanes (record { columns = columns; words = w; buffer = items }) r (replicate columns false) small (length-replicate columns false)
@@ -224,26 +226,26 @@ lane_at-put w k buffer new start e within long c r small = by_cases (cases_eq c 
 -- the rows after a column was written
 pub put_rows : (view t : TileView) (old new items : List ℕ) (k : ℕ) (column : List ℕ) → view ≡ t → items ≡ new → old ≡ view.buffer → k < t.columns →
     ((c r : ℕ) → r < 64 * view.words → lane_at view.words new c r ≡ cond (eqb c k) (lane column r) (lane_at view.words old c r)) →
-    (r : ℕ) → IsRow t r → row_of (record view { buffer = items }) r ≡ set (row_of t r) k (lane column r)
+    (r : ℕ) → IsLane t r → vector_of (record view { buffer = items }) r ≡ set (vector_of t r) k (lane column r)
 put_rows view t old new items k column is items_are old_is small lanes =
-    let P : TileView → Type 0 = λ t. k < t.columns → (r : ℕ) → IsRow t r → row_of (record view { buffer = items }) r ≡ set (row_of t r) k (lane column r) in
+    let P : TileView → Type 0 = λ t. k < t.columns → (r : ℕ) → IsLane t r → vector_of (record view { buffer = items }) r ≡ set (vector_of t r) k (lane column r) in
     subst P is (λ small r row.
-    let m : List Bool = row_of view r in
+    let m : List Bool = vector_of view r in
     let x : Bool = lane column r in
-    row_from_lanes (record view { buffer = items }) r (set m k x) row (length-set m k x ∙ length-row_of view r)
+    row_from_lanes (record view { buffer = items }) r (set m k x) row (length-set m k x ∙ length-vector_of view r)
     (λ c within.
     ap (λ (l : List ℕ). lane_at view.words l c r) items_are ∙ lanes c r row
     ∙ ap (λ (l : List ℕ). cond (eqb c k) x (lane_at view.words l c r)) old_is
     ∙ elim (cases_eq c k) as (λ _. cond (eqb c k) x (lane_at view.words view.buffer c r) ≡ get_or (set m k x) c false) [
       | inl same ↦
-          rw (eq-eqb c k same) (sym (ap (λ (n : ℕ). get_or (set m k x) n false) same ∙ get_or-set_same m k x false (omega (arith, length-row_of view r))))
+          rw (eq-eqb c k same) (sym (ap (λ (n : ℕ). get_or (set m k x) n false) same ∙ get_or-set_same m k x false (omega (arith, length-vector_of view r))))
       | inr apart ↦
-          rw (ne_eqb c k apart) (sym (get_or-set_other m k c x false apart ∙ get_or-row_of view r c row within))
+          rw (ne_eqb c k apart) (sym (get_or-set_other m k c x false apart ∙ get_or-vector_of view r c row within))
     ])) small
 
 -- a lane of a column is the bit of its row
-pub column_lanes : (t : TileView) (r c : ℕ) → IsRow t r → c < t.columns → lane (column_of t c) r ≡ get_or (row_of t r) c false
-column_lanes t r c row small = lane-column t.words t.buffer c r row ∙ sym (get_or-row_of t r c row small)
+pub column_lanes : (t : TileView) (r c : ℕ) → IsLane t r → c < t.columns → lane (column_of t c) r ≡ get_or (vector_of t r) c false
+column_lanes t r c row small = lane-column t.words t.buffer c r row ∙ sym (get_or-vector_of t r c row small)
 
 -- a tile of these parts
 abbrev pub record_of : ℕ → ℕ → List ℕ → TileView
@@ -281,7 +283,7 @@ column_start t k tile small = omega (arith, tile.whole, low_within t.words k t.c
 
 -- the rows with other words in a column
 pub with_column_rows : (t : TileView) (k : ℕ) (column : List ℕ) → IsTile t → k < t.columns → length column ≡ t.words →
-    (r : ℕ) → IsRow t r → row_of (with_column t k column) r ≡ set (row_of t r) k (lane column r)
+    (r : ℕ) → IsLane t r → vector_of (with_column t k column) r ≡ set (vector_of t r) k (lane column r)
 unfolding with_words
 with_column_rows t k column tile small long =
     let w : ℕ = t.words in

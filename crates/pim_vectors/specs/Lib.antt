@@ -3,3 +3,4 @@ pub mod Next
 pub mod Tiles
 pub mod Lending
 pub mod TileLending
+pub mod inner

@@ -1,10 +1,6 @@
 -- The lines of a text of vectors.
-use Rattle.std.specs.Prelude.{ℕ, ◌+◌, ◌-◌, ◌==◌, List, [], ◌∷◌, ◌++◌, length, take, slice_index, if◌then◌else◌}
-use Rattle.pim_io.specs.Lines.{is_newline}
-
--- a text without the carriage return that it ends in
-abbrev pub without_return : List ℕ → List ℕ
-without_return text = if slice_index text (length text - 1) == 13 then take (length text - 1) text else text
+use Rattle.std.specs.Prelude.{ℕ, ◌+◌, List, [], ◌∷◌, ◌++◌, if◌then◌else◌}
+use Rattle.pim_io.specs.Lines.{is_newline, without_return}
 
 -- a last line, if it is not empty
 abbrev pub last_line : List ℕ → List (List ℕ)

@@ -1,16 +1,14 @@
 -- What comes next of the lines that a source gives, within the limits.
-use Rattle.std.specs.Prelude.{◌≡◌, ℕ, ◌+◌, ◌-◌, ◌<◌, ◌≤◌, ◌==◌, nat_lt, true, false, ◌&&◌, ◌⊎◌, List, [], ◌∷◌, ◌++◌, length, take, drop, slice_index, Option, Some, None, Result, Ok, Err, if◌then◌else◌}
+use Rattle.std.specs.Prelude.{◌≡◌, ℕ, ◌+◌, ◌-◌, ◌<◌, ◌≤◌, ◌==◌, nat_lt, ◌&&◌, List, [], ◌∷◌, ◌++◌, length, take, drop, Option, Some, None, Result, Ok, Err, if◌then◌else◌}
 use Rattle.std.specs.Option.{option_copied, option_to_list}
 use Rattle.std.specs.Borrow.{Bor}
-use Rattle.pim_io.specs.Lines.{is_newline}
 use Rattle.pim_io.specs.Outside.{Told}
-use Rattle.pim_vectors.specs.declared.limits.TheConstants.{MAX_LINES, MAX_BYTES}
+use Rattle.pim_io.specs.declared.limits.TheConstants.{MAX_INPUT}
+use Rattle.pim_vectors.specs.declared.limits.TheConstants.{MAX_LINES}
 use Rattle.pim_vectors.specs.declared.fault.LinesFault.{LinesFault}
 use Rattle.pim_vectors.specs.declared.fault.LinesFault.TheVariants as faults
-use Rattle.pim_vectors.specs.declared.found.Found.{Found}
-use Rattle.pim_vectors.specs.declared.found.Found.TheVariants as found
-use Rattle.pim_vectors.specs.declared.sizes.Sizes.{Sizes}
-use Rattle.pim_vectors.specs.Lines.{without_return, lines, line_len}
+use Rattle.pim_io.specs.Lines.{without_return}
+use Rattle.pim_vectors.specs.Lines.{lines, line_len}
 
 -- the most bytes of a line, how many lines were handed out, how many bytes these had with their ends, and the bytes that were
 -- taken after them
@@ -42,7 +40,7 @@ judged v piece count =
 
 -- of the bytes from the next line on, those within the limit
 abbrev pub within_limit : LinesView → List ℕ → List ℕ
-within_limit v bytes = take (MAX_BYTES - v.place) bytes
+within_limit v bytes = take (MAX_INPUT - v.place) bytes
 
 -- the answer where these are all bytes from the next line on: those that were taken and those that are left
 unfoldable pub next_of : LinesView → List ℕ → Result (Option (List ℕ)) LinesFault
@@ -69,7 +67,7 @@ CutsLines (Err e) bytes rest = Unit {0}
 pub record IsWaiting (v : LinesView) : Type 0 where
   pub none : line_len v.held ≡ length v.held
   pub short : length v.held < v.longest + 2
-  pub within : v.place + length v.held ≤ MAX_BYTES
+  pub within : v.place + length v.held ≤ MAX_INPUT
 
 -- the state after an answer, where the source had the bytes `before` left, and has `now`, if it tells them
 pub record IsAfter (old : LinesView) (before now : Option (List ℕ)) (result : Result (Option (Bor (List ℕ))) LinesFault) (new : LinesView) : Type 0 where
@@ -79,64 +77,3 @@ pub record IsAfter (old : LinesView) (before now : Option (List ℕ)) (result : 
   pub place : Told before now (λ b n. new.place + length (new.held ++ n) ≡ old.place + length (old.held ++ b))
   pub cut : Told before now (λ b n. CutsLines result (old.held ++ b) (new.held ++ n))
   pub waits : result ≡ Err faults.Fault → IsWaiting new
-
--- ---- what stands next among the bytes that were taken
--- the bytes of a line without its end, and the bytes of a last piece
-abbrev pub found_text : LinesView → Found → List ℕ
-found_text v (found.Line n) = without_return (take n v.held)
-found_text v (found.Rest n) = take n v.held
-
--- the same with its end
-abbrev pub whole_len : Found → ℕ
-whole_len (found.Line n) = n + 1
-whole_len (found.Rest n) = n
-
--- none of the first n bytes is a newline
-abbrev pub NoNewline : List ℕ → ℕ → Type 0
-NoNewline bytes n = (k : ℕ) → k < n → is_newline (slice_index bytes k) ≡ false
-
--- the piece that stands next is done: it is too long as a line, or the source gave its end and all bytes are within the limit
-abbrev pub IsDone : LinesView → Option (List ℕ) → Option (List ℕ) → ℕ → Type 0
-IsDone v before now n = (v.longest + 2 ≤ n) ⊎ (Told before now (λ b rest. rest ≡ []) × (length v.held ≤ MAX_BYTES - v.place))
-
--- what stands next in this state, where the source had the bytes `before` left, and has `now`, if it tells them
-abbrev pub IsFound : LinesView → Option (List ℕ) → Option (List ℕ) → Found → Type 0
-IsFound v before now (found.Line n) = (n < length (within_limit v v.held)) × (is_newline (slice_index v.held n) ≡ true) × NoNewline v.held n
-IsFound v before now (found.Rest n) = (n ≡ length (within_limit v v.held)) × NoNewline v.held n × IsDone v before now n
-
--- a further byte was taken that is over the limit, and no line stands before it
-pub record IsOver (v : LinesView) : Type 0 where
-  pub over : MAX_BYTES - v.place < length v.held
-  pub short : MAX_BYTES - v.place < v.longest + 2
-  pub none : NoNewline v.held (MAX_BYTES - v.place)
-
--- bytes were taken, and nothing was handed out
-pub record Took (old : LinesView) (before now : Option (List ℕ)) (new : LinesView) : Type 0 where
-  pub longest : new.longest ≡ old.longest
-  pub given : new.given ≡ old.given
-  pub place : new.place ≡ old.place
-  pub bytes : Told before now (λ b n. new.held ++ n ≡ old.held ++ b)
-
--- what the buffer of `len` bytes keeps: the bytes that were taken and not handed out are those from `start` to `end`; there is
--- room for more than the longest line with its end; and the limits hold, but for one byte more that was taken
-pub record IsBuffer (start end len longest given place : ℕ) : Type 0 where
-  pub ordered : start ≤ end
-  pub within : end ≤ len
-  pub room : longest + 2 < len
-  pub few : given ≤ MAX_LINES
-  pub limit : place ≤ MAX_BYTES
-  pub taken : place + (end - start) ≤ MAX_BYTES + 1
-
--- the first bytes that are held are the text of the next line, and more of them that line with its end
-pub record IsNext (v : LinesView) (before now : Option (List ℕ)) (s : Sizes) : Type 0 where
-  pub short : s.text ≤ s.whole
-  pub some : 0 < s.whole
-  pub within : s.whole ≤ length (within_limit v v.held)
-  pub more : v.given < MAX_LINES
-  pub answer : Told before now (λ b n. next_of v (v.held ++ n) ≡ Ok (Some (take s.text v.held)))
-  pub whole : Told before now (λ b n. drop s.whole v.held ++ n ≡ drop (line_len (v.held ++ n) + 1) (v.held ++ n))
-  pub cut : Told before now (λ b n. lines (v.held ++ n) ≡ take s.text v.held ∷ lines (drop s.whole v.held ++ n))
-
--- there is no line in this state any more
-abbrev pub IsEnd : LinesView → Option (List ℕ) → Option (List ℕ) → Type 0
-IsEnd v before now = Told before now (λ b n. (next_of v (v.held ++ n) ≡ Ok None) × (v.held ++ n ≡ []))

@@ -1,8 +1,7 @@
-ghost use Rattle.std.specs.Prelude.{◌≡◌, ℕ, ◌+◌, ◌<◌, ◌≤◌, true, false, length, take, drop, slice_index, IfOk, OnErr};
+ghost use Rattle.std.specs.Prelude.{◌≡◌, ℕ, ◌+◌, ◌<◌, ◌≤◌, true, false, length, take, drop, slice_index, IfOk, OnOk, OnErr};
 ghost use Rattle.pim_io.specs.Lines.{is_newline};
 ghost use Rattle.pim_io.specs.Outside.{Rose, Gave, IsSpent};
-ghost use Rattle.pim_vectors.specs.Lines.{without_return};
-ghost use Rattle.pim_vectors.specs.Next.{NoNewline};
+ghost use Rattle.pim_vectors.specs.inner.Found.{NoNewline};
 
 use memchr::memchr;
 use pim_io::{Source, SourceFault};
@@ -23,17 +22,6 @@ pub(crate) fn newline_from(bytes: &[u8], from: usize) -> usize
     }
 }
 
-/// How many bytes a text has without the carriage return that it ends in.
-pub(crate) fn len_without_return(text: &[u8]) -> usize
-    ensures { result ≡ length (without_return text.now) }
-{
-    let len = text.len();
-    if len > 0 && text[len - 1] == b'\r' {
-        return len - 1;
-    }
-    len
-}
-
 /// Moves bytes that begin at a place to the front. Linear in the bytes that are moved, and these are none where they stand there.
 fn move_to_front(buffer: &mut [u8], start: usize, len: usize)
     requires { start + len ≤ length buffer.old }
@@ -44,46 +32,48 @@ fn move_to_front(buffer: &mut [u8], start: usize, len: usize)
     }
 }
 
-/// Moves the held bytes, which begin at a place, to the front of the buffer, and reads at most so many bytes behind them. Says
+/// Moves the held bytes, which begin at a place, to the front of the buffer, and reads at most `limit` bytes behind them. Returns
 /// how many were read: 0 at the end of the source.
 pub(crate) fn refill<S: Source>(
     source: &mut S,
     buffer: &mut [u8],
     start: usize,
     held: usize,
-    most: usize,
+    limit: usize,
 ) -> Result<usize, SourceFault>
-    requires some { 0 < most }
-    requires room { held + most ≤ length buffer.old }
+    requires some { 0 < limit }
+    requires room { held + limit ≤ length buffer.old }
     requires within { start + held ≤ length buffer.old }
     ensures kept { take held buffer.new ≡ take held (drop start buffer.old) }
-    ensures most { IfOk result (λ n. n ≤ most) }
+    ensures within { IfOk result (λ n. n ≤ limit) }
     ensures gave { IfOk result (λ n. Gave (S.left source.old) (S.left source.new) (take n (drop held buffer.new))) }
     ensures end { IfOk result (λ n. n ≡ 0 → IsSpent (S.left source.old) (S.left source.new)) }
     ensures stays { OnErr result (S.left source.new ≡ S.left source.old) }
+    ensures steady { OnOk result (S.faults source.new ≡ S.faults source.old) }
     ensures counted { OnErr result (Rose (S.faults source.old) (S.faults source.new)) }
     ensures never_falls { S.faults source.old ≤ S.faults source.new }
 {
     move_to_front(buffer, start, held);
-    read_behind(source, buffer, held, most)
+    read_behind(source, buffer, held, limit)
 }
 
-/// Reads at most that many bytes into a buffer, behind the bytes that it holds, and says how many: 0 at the end of the source.
+/// Reads at most `limit` bytes into a buffer, behind the bytes that it holds, and returns how many: 0 at the end of the source.
 fn read_behind<S: Source>(
     source: &mut S,
     buffer: &mut [u8],
     held: usize,
-    most: usize,
+    limit: usize,
 ) -> Result<usize, SourceFault>
-    requires some { 0 < most }
-    requires room { held + most ≤ length buffer.old }
+    requires some { 0 < limit }
+    requires room { held + limit ≤ length buffer.old }
     ensures kept { take held buffer.new ≡ take held buffer.old }
-    ensures within { IfOk result (λ n. n ≤ most) }
+    ensures within { IfOk result (λ n. n ≤ limit) }
     ensures gave { IfOk result (λ n. Gave (S.left source.old) (S.left source.new) (take n (drop held buffer.new))) }
     ensures end { IfOk result (λ n. n ≡ 0 → IsSpent (S.left source.old) (S.left source.new)) }
     ensures stays { OnErr result (S.left source.new ≡ S.left source.old) }
+    ensures steady { OnOk result (S.faults source.new ≡ S.faults source.old) }
     ensures counted { OnErr result (Rose (S.faults source.old) (S.faults source.new)) }
     ensures never_falls { S.faults source.old ≤ S.faults source.new }
 {
-    source.read(&mut buffer[held..held + most])
+    source.read(&mut buffer[held..held + limit])
 }

@@ -15,7 +15,7 @@ pub enum LinesFault {
     #[error("there are too many lines")]
     TooMany,
 
-    /// There are more bytes than `MAX_BYTES`.
+    /// There are more bytes than `MAX_INPUT`.
     #[error("there are too many bytes")]
     TooLong,
 }

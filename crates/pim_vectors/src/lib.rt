@@ -1,13 +1,13 @@
-//! Vectors of bits from lines of text: lines from a source, one buffer for all, and tiles of rows, 64 in a word.
+//! Vectors of bits from lines of text: lines from a source, one buffer for all, and tiles of vectors, 64 in a word.
 #![tactic(auto)]
 
 mod bytes;
 mod fault;
 mod fits;
 mod found;
+mod lanes;
 mod limits;
 mod lines;
-mod rows;
 mod sizes;
 #[cfg(test)]
 mod tests;
@@ -15,6 +15,6 @@ mod tile;
 
 pub use fault::LinesFault;
 pub use fits::vector_fits;
-pub use limits::{MAX_BYTES, MAX_LINES};
+pub use limits::{MAX_LINES, MAX_WORDS};
 pub use lines::Lines;
 pub use tile::Tile;

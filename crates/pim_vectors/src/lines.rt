@@ -3,14 +3,17 @@ ghost use Rattle.std.specs.Option.{option_copied};
 ghost use Rattle.pim_io.specs.Lines.{is_newline};
 ghost use Rattle.pim_io.specs.Outside.{Rose, IsSpent, Told};
 ghost use Rattle.pim_vectors.specs.Lines.{line_len};
-ghost use Rattle.pim_vectors.specs.Next.{within_limit, NoNewline, IsFound, IsOver, Took, IsNext, IsEnd, handed, next_of, found_text, whole_len};
+ghost use Rattle.pim_vectors.specs.Next.{within_limit, handed, next_of};
+ghost use Rattle.pim_vectors.specs.inner.Found.{NoNewline, IsFound, IsOver, found_text, whole_len};
+ghost use Rattle.pim_vectors.specs.inner.Taken.{Took};
+ghost use Rattle.pim_vectors.specs.inner.NextLine.{IsNext, IsEnd};
 
 use crate::bytes;
 use crate::fault::LinesFault;
 use crate::found::Found;
-use crate::limits::{MAX_BYTES, MAX_LINES};
+use crate::limits::MAX_LINES;
 use crate::sizes::Sizes;
-use pim_io::{NoMemory, Source};
+use pim_io::{MAX_INPUT, NoMemory, Source, without_return};
 use std::alloc::Global;
 use std::marker::Model;
 
@@ -35,7 +38,8 @@ pub struct Lines {
 
 impl Model for Lines {
     ghost use Rattle.std.specs.Prelude.{◌-◌, take, drop, vec_len};
-    ghost use Rattle.pim_vectors.specs.Next.{LinesView, IsBuffer};
+    ghost use Rattle.pim_vectors.specs.Next.{LinesView};
+    ghost use Rattle.pim_vectors.specs.inner.Kept.{IsBuffer};
 
     ghost Value = { LinesView };
 
@@ -78,13 +82,15 @@ impl Lines {
     /// The next line, without its newline and a carriage return before that, or None at the end of the source. All lines that
     /// were taken are handed out before more bytes are. A last piece without a newline is a line, if it isn't empty. The faults:
     /// `Long` of a line of more bytes than the longest, once its end or two more than the longest of its bytes were taken; `TooMany`
-    /// in place of line `MAX_LINES` + 1; `TooLong` where more than `MAX_BYTES` bytes were taken and no line or other fault stands
+    /// in place of line `MAX_LINES` + 1; `TooLong` where more than `MAX_INPUT` bytes were taken and no line or other fault stands
     /// before the last of these; `Fault` where a read failed before one of these was known. Takes no memory. Linear in the bytes.
     pub fn next<S: Source>(&mut self, source: &mut S) -> Result<Option<&[u8]>, LinesFault>
         ensures line { IfOk result (λ line. Told (S.left source.old) (S.left source.new)
             (λ before now. next_of self.old (self.old.held ++ before) ≡ Ok (option_copied line))) }
         ensures refused { IfErr result (λ fault. fault ≢ LinesFault.Fault → Told (S.left source.old) (S.left source.new)
             (λ before now. next_of self.old (self.old.held ++ before) ≡ Err fault)) }
+        ensures steady { OnOk result (S.faults source.new ≡ S.faults source.old) }
+        ensures spared { IfErr result (λ fault. fault ≢ LinesFault.Fault → S.faults source.new ≡ S.faults source.old) }
         ensures fault { IfErr result (λ fault. fault ≡ LinesFault.Fault → Rose (S.faults source.old) (S.faults source.new)) }
         ensures never_falls { S.faults source.old ≤ S.faults source.new }
 
@@ -107,15 +113,15 @@ impl Lines {
     fn within(&self) -> usize
         ensures { result ≡ length (within_limit self.now self.now.held) }
     {
-        (self.end - self.start).min((MAX_BYTES - self.place) as usize)
+        (self.end - self.start).min((MAX_INPUT - self.place) as usize)
     }
 
     /// Whether a byte over the limit was taken.
     fn is_over(&self) -> bool
-        ensures over { IsTrue result ↔ (MAX_BYTES - self.now.place < length self.now.held) }
-        ensures limit { self.now.place ≤ MAX_BYTES }
+        ensures over { IsTrue result ↔ (MAX_INPUT - self.now.place < length self.now.held) }
+        ensures limit { self.now.place ≤ MAX_INPUT }
     {
-        self.end - self.start > (MAX_BYTES - self.place) as usize
+        self.end - self.start > (MAX_INPUT - self.place) as usize
     }
 
     /// The place of the first newline among the bytes that may belong to lines, or their number, where none stands before `seen`.
@@ -138,7 +144,7 @@ impl Lines {
         len >= self.longest as usize + 2
     }
 
-    /// Takes bytes until it is known what the next line is, and says its sizes, or None at the end.
+    /// Takes bytes until it is known what the next line is, and returns its sizes, or None at the end.
     fn next_sizes<S: Source>(&mut self, source: &mut S) -> Result<Option<Sizes>, LinesFault>
         ensures took { Took self.old (S.left source.old) (S.left source.new) self.new }
         ensures next { IfOk result (λ next. MatchOption next
@@ -148,7 +154,8 @@ impl Lines {
             → Told (S.left source.old) (S.left source.new) (λ before now. next_of self.new (self.new.held ++ now) ≡ Err fault)) }
         ensures waits { result ≡ Err LinesFault.Fault → NoNewline self.new.held (length self.new.held) }
         ensures short { result ≡ Err LinesFault.Fault → length self.new.held < self.new.longest + 2 }
-        ensures limit { result ≡ Err LinesFault.Fault → self.new.place + length self.new.held ≤ MAX_BYTES }
+        ensures limit { result ≡ Err LinesFault.Fault → self.new.place + length self.new.held ≤ MAX_INPUT }
+        ensures steady { result ≢ Err LinesFault.Fault → S.faults source.new ≡ S.faults source.old }
         ensures counted { result ≡ Err LinesFault.Fault → Rose (S.faults source.old) (S.faults source.new) }
         ensures never_falls { S.faults source.old ≤ S.faults source.new }
         ensures unread { line_len self.old.held < length self.old.held → source.new ≡ source.old }
@@ -190,7 +197,7 @@ impl Lines {
             Found::Line(len) => {
                 let text = &self.buffer[self.start..self.start + len];
                 Sizes {
-                    text: bytes::len_without_return(text),
+                    text: without_return(text).len(),
                     whole: len + 1,
                 }
             }
@@ -201,7 +208,7 @@ impl Lines {
         }
     }
 
-    /// Takes bytes until it is known what stands next, and says that. It takes none where the bytes that are held have a newline.
+    /// Takes bytes until it is known what stands next, and returns that. It takes none where the bytes that are held have a newline.
     fn find<S: Source>(&mut self, source: &mut S) -> Result<Found, LinesFault>
         ensures took { Took self.old (S.left source.old) (S.left source.new) self.new }
         ensures found { IfOk result (IsFound self.new (S.left source.old) (S.left source.new)) }
@@ -209,7 +216,8 @@ impl Lines {
         ensures faults { IfErr result (λ fault. (fault ≡ LinesFault.Fault) ⊎ (fault ≡ LinesFault.TooLong)) }
         ensures waits { result ≡ Err LinesFault.Fault → NoNewline self.new.held (length self.new.held) }
         ensures short { result ≡ Err LinesFault.Fault → length self.new.held < self.new.longest + 2 }
-        ensures limit { result ≡ Err LinesFault.Fault → self.new.place + length self.new.held ≤ MAX_BYTES }
+        ensures limit { result ≡ Err LinesFault.Fault → self.new.place + length self.new.held ≤ MAX_INPUT }
+        ensures steady { result ≢ Err LinesFault.Fault → S.faults source.new ≡ S.faults source.old }
         ensures counted { result ≡ Err LinesFault.Fault → Rose (S.faults source.old) (S.faults source.new) }
         ensures never_falls { S.faults source.old ≤ S.faults source.new }
         ensures unread { line_len self.old.held < length self.old.held → source.new ≡ source.old }
@@ -233,24 +241,25 @@ impl Lines {
         }
     }
 
-    /// Reads behind the bytes that are held, and says how many bytes came: 0 at the end of the source.
+    /// Reads behind the bytes that are held, and returns how many bytes came: 0 at the end of the source.
     fn read_on<S: Source>(&mut self, source: &mut S) -> Result<usize, LinesFault>
         requires small { length self.old.held < self.old.longest + 2 }
-        requires limit { self.old.place + length self.old.held ≤ MAX_BYTES }
+        requires limit { self.old.place + length self.old.held ≤ MAX_INPUT }
         ensures took { Took self.old (S.left source.old) (S.left source.new) self.new }
         ensures len { IfOk result (λ n. length self.new.held ≡ length self.old.held + n) }
         ensures kept { IfOk result (λ n. take (length self.old.held) self.new.held ≡ self.old.held) }
         ensures end { IfOk result (λ n. n ≡ 0 → IsSpent (S.left source.old) (S.left source.new)) }
         ensures fault { IfErr result (λ fault. fault ≡ LinesFault.Fault) }
         ensures stays { OnErr result (self.new ≡ self.old) }
+        ensures steady { OnOk result (S.faults source.new ≡ S.faults source.old) }
         ensures counted { OnErr result (Rose (S.faults source.old) (S.faults source.new)) }
         ensures never_falls { S.faults source.old ≤ S.faults source.new }
     {
         let held = self.end - self.start;
         let start = self.start;
         let room = self.buffer.len() - held;
-        let most = room.min((MAX_BYTES - self.place) as usize + 1 - held);
-        let read = bytes::refill(source, &mut self.buffer, start, held, most);
+        let limit = room.min((MAX_INPUT - self.place) as usize + 1 - held);
+        let read = bytes::refill(source, &mut self.buffer, start, held, limit);
         self.start = 0;
         self.end = held;
         let Ok(n) = read else {

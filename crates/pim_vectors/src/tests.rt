@@ -70,7 +70,7 @@ fn vectors_are_judged(rt: HostRuntime) {
 }
 
 #[test]
-fn a_row_is_packed(rt: HostRuntime) -> Result<(), Fail> {
+fn a_vector_is_packed(rt: HostRuntime) -> Result<(), Fail> {
     let mut tile = Tile::new(rt.alloc(), 3, 2)?;
     tile.pack(65, b"101");
     tile.pack(0, b"010");

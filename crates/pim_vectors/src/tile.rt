@@ -1,14 +1,16 @@
 ghost use Rattle.std.specs.Prelude.{◌≡◌, ℕ, ◌+◌, ◌*◌, ◌<◌, ◌≤◌, ◌==◌, if◌then◌else◌, false, List, length, replicate, slice_index_or, slice_set, IfOk};
 ghost use Rattle.pim_io.specs.Bits.{bits_of, line_of};
 ghost use Rattle.pim_io.specs.Lanes.{lane};
-ghost use Rattle.pim_vectors.specs.Tiles.{column_of, with_column, row_of, IsRow, IsTile, IsVector, SameSizes};
+ghost use Rattle.pim_vectors.specs.Tiles.{column_of, with_column, vector_of, IsLane, IsVector, SameSizes};
+ghost use Rattle.pim_vectors.specs.inner.Kept.{IsTile};
 
-use crate::rows;
+use crate::lanes;
+use crate::limits::MAX_WORDS;
 use pim_io::NoMemory;
 use std::alloc::Global;
 use std::marker::Model;
 
-/// Vectors of bits as rows side by side: a column of words for each place of a vector, with a lane of each column for each row.
+/// Vectors of bits side by side: a column of words for each place of a vector, with a lane of each column for each vector.
 #[derive(Debug, Drop)]
 pub struct Tile {
     buffer: Vec<u64>,
@@ -17,7 +19,8 @@ pub struct Tile {
 }
 
 impl Model for Tile {
-    ghost use Rattle.pim_vectors.specs.Tiles.{TileView, IsTile};
+    ghost use Rattle.pim_vectors.specs.Tiles.{TileView};
+    ghost use Rattle.pim_vectors.specs.inner.Kept.{IsTile};
 
     ghost Value = { TileView };
 
@@ -30,12 +33,12 @@ impl Tile {
     ghost use Rattle.std.specs.Borrow.{sem};
     ghost use Rattle.pim_vectors.specs.TileLending.{LendsColumn};
 
-    /// A tile of that many columns, and 64 rows for each word of a column, all zero. Takes memory for all columns at once.
+    /// A tile of that many columns, with 64 lanes for each word of a column, all zero. Takes memory for all columns at once.
     pub fn new(alloc: Global, columns: u32, words: usize) -> Result<Tile, NoMemory>
-        requires { words ≤ 64 }
+        requires { words ≤ MAX_WORDS }
         ensures columns { IfOk result (λ tile. tile.columns ≡ columns) }
         ensures words { IfOk result (λ tile. tile.words ≡ words) }
-        ensures rows { IfOk result (λ tile. (r : ℕ) → IsRow tile r → row_of tile r ≡ replicate columns false) }
+        ensures vectors { IfOk result (λ tile. (r : ℕ) → IsLane tile r → vector_of tile r ≡ replicate columns false) }
     {
         Ok(Tile {
             buffer: vec![in alloc; 0; columns as usize * words]?,
@@ -44,23 +47,23 @@ impl Tile {
         })
     }
 
-    /// Writes the bits of a line of the characters `0` and `1` into a row. Linear in the line.
-    pub fn pack(&mut self, row: u32, line: &[u8])
-        requires row { IsRow self.old row }
+    /// Writes the bits of a line of the characters `0` and `1` into a lane. Linear in the line.
+    pub fn pack(&mut self, index: u32, line: &[u8])
+        requires lane { IsLane self.old index }
         requires fits { IsVector self.old.columns line.now }
-        ensures rows { (r : ℕ) → IsRow self.old r → row_of self.new r ≡ (if r == row then bits_of line.now else row_of self.old r) }
+        ensures vectors { (r : ℕ) → IsLane self.old r → vector_of self.new r ≡ (if r == index then bits_of line.now else vector_of self.old r) }
         ensures sizes { SameSizes self.old self.new }
     {
-        rows::pack_row(&mut self.buffer, self.words, row as usize, line);
+        lanes::pack_lane(&mut self.buffer, self.words, index as usize, line);
     }
 
-    /// Writes the bits of a row as the characters `0` and `1` into a line. Linear in the line.
-    pub fn unpack(&self, row: u32, line: &mut [u8])
-        requires row { IsRow self.now row }
+    /// Writes the bits of a lane as the characters `0` and `1` into a line. Linear in the line.
+    pub fn unpack(&self, index: u32, line: &mut [u8])
+        requires lane { IsLane self.now index }
         requires long { length line.old ≡ self.now.columns }
-        ensures { line.new ≡ line_of (row_of self.now row) }
+        ensures { line.new ≡ line_of (vector_of self.now index) }
     {
-        rows::unpack_row(&self.buffer, self.words, row as usize, line);
+        lanes::unpack_lane(&self.buffer, self.words, index as usize, line);
     }
 
     /// The words of a column.
@@ -68,7 +71,7 @@ impl Tile {
         requires { k < self.now.columns }
         ensures value { result.now ≡ column_of self.now k }
         ensures long { length result.now ≡ self.now.words }
-        ensures lanes { (r : ℕ) → IsRow self.now r → lane result.now r ≡ slice_index_or (row_of self.now r) k false }
+        ensures lanes { (r : ℕ) → IsLane self.now r → lane result.now r ≡ slice_index_or (vector_of self.now r) k false }
     {
         let start = k as usize * self.words;
         &self.buffer[start..start + self.words]
@@ -81,9 +84,9 @@ impl Tile {
         ensures value { result.now ≡ column_of self.old k }
         ensures long { length result.now ≡ self.old.words }
 
-        // What the rows are then.
-        ensures rows { (column : List ℕ) → length column ≡ self.old.words → (r : ℕ) → IsRow self.old r
-            → row_of (with_column self.old k column) r ≡ slice_set (row_of self.old r) k (lane column r) }
+        // What the vectors are then.
+        ensures vectors { (column : List ℕ) → length column ≡ self.old.words → (r : ℕ) → IsLane self.old r
+            → vector_of (with_column self.old k column) r ≡ slice_set (vector_of self.old r) k (lane column r) }
     {
         let start = k as usize * self.words;
         let end = start + self.words;
@@ -94,9 +97,9 @@ impl Tile {
     pub fn put_column(&mut self, k: u32, words: &[u64])
         requires column { k < self.old.columns }
         requires long { length words.now ≡ self.old.words }
-        ensures rows { (r : ℕ) → IsRow self.old r → row_of self.new r ≡ slice_set (row_of self.old r) k (lane words.now r) }
+        ensures vectors { (r : ℕ) → IsLane self.old r → vector_of self.new r ≡ slice_set (vector_of self.old r) k (lane words.now r) }
         ensures sizes { SameSizes self.old self.new }
     {
-        rows::put_column(&mut self.buffer, self.words, k as usize, words);
+        lanes::put_column(&mut self.buffer, self.words, k as usize, words);
     }
 }

@@ -22,7 +22,7 @@ use Rattle.pim_words.specs.declared.command.TargetWord.TheVariants as targets
 use Rattle.pim_top.specs.Netlists.{net_of}
 use Rattle.pim_top.specs.declared.judgement.Judgement.{Judgement}
 use Rattle.pim_top.specs.declared.judgement.Judgement.TheVariants.{Compile, Netlist}
-use Rattle.pim_top.specs.declared.limits.TheConstants.{MAX_INPUT}
+use Rattle.pim_io.specs.declared.limits.TheConstants.{MAX_INPUT}
 
 -- the machine that a word of `--target` names
 abbrev pub target_of : TargetWord → Target

@@ -15,7 +15,7 @@ use Rattle.pim_words.specs.declared.command.FillWord.TheVariants as words
 use Rattle.pim_top.specs.Streams.{IsRead, Stream}
 use Rattle.pim_top.specs.declared.judgement.Judgement.{Judgement}
 use Rattle.pim_top.specs.declared.judgement.Judgement.TheVariants.{File}
-use Rattle.pim_top.specs.declared.limits.TheConstants.{MAX_INPUT, MAX_PROGRAM}
+use Rattle.pim_io.specs.declared.limits.TheConstants.{MAX_INPUT, MAX_PROGRAM}
 
 -- the filling that a word of `--fill` names
 abbrev pub fill_of : FillWord → Fill

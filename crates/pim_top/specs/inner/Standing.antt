@@ -11,7 +11,7 @@ use Rattle.pim_vectors.specs.declared.limits.TheConstants.{MAX_LINES}
 use Rattle.pim_top.specs.Judged.{first_refusal, fitting, fitting_lines, input_refusal, last_piece}
 use Rattle.pim_top.specs.Walks.{RanInPart, RanShort, RanTo, RanWhole, rows_of}
 use Rattle.pim_top.specs.declared.judgement.Judgement.TheVariants as judgement
-use Rattle.pim_top.specs.declared.limits.TheConstants.{MAX_INPUT}
+use Rattle.pim_io.specs.declared.limits.TheConstants.{MAX_INPUT}
 use Rattle.pim_top.specs.declared.refusal.Origin.TheVariants as origin
 use Rattle.pim_top.specs.declared.refusal.Refusal.{Refusal}
 use Rattle.pim_top.specs.declared.refusal.Refusal.TheVariants as refusal

@@ -6,11 +6,12 @@ ghost use Rattle.pim_top.specs.Answers.{IsWanting};
 ghost use Rattle.pim_top.specs.commands.Compile.{CompileAnswers, level_of, target_of};
 
 use crate::judgement::Judgement;
-use crate::limits::MAX_INPUT;
+
 use crate::netlist;
 use crate::refusal::Origin;
 use crate::whole::WholeText;
 use pim_compile::{Level, Target, compile};
+use pim_io::MAX_INPUT;
 use pim_words::{LevelWord, TargetWord};
 use std::alloc::Global;
 

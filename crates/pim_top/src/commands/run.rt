@@ -6,13 +6,13 @@ ghost use Rattle.pim_top.specs.Streams.{Stream, seen, stream};
 ghost use Rattle.pim_top.specs.commands.Run.{IsProgramRead, fill_of, run_of};
 
 use crate::judgement::Judgement;
-use crate::limits::MAX_PROGRAM;
+
 use crate::reading::bytes_of;
 use crate::refusal::{Origin, Refusal};
 use crate::walk::walk;
 use pim_batch::Batch;
 use pim_file::parse;
-use pim_io::{Sink, Source};
+use pim_io::{MAX_PROGRAM, Sink, Source};
 use pim_isa::{Fill, Program};
 use pim_vectors::Lines;
 use pim_words::FillWord;

@@ -1,6 +1,7 @@
 use Rattle.std.proofs.Common.{◌≡◌, None, drop, IfSome}
 use Rattle.pim_aig.specs.Chains.{chain_from}
-use Rattle.pim_aig.specs.Graph.{Grows, IsOfFirst, nodes}
+use Rattle.pim_aig.specs.Graph.{IsOfFirst, nodes}
+use Rattle.pim_aig.specs.inner.Growing.{Grows}
 use Rattle.pim_aig.proofs.chain.chain.Given as goal
 
 abbrev pub invariant-loop-literal : goal.invariant-loop-literal

@@ -1,7 +1,8 @@
 use Rattle.std.proofs.Common.{◌+◌, List, ◌∷◌, length, drop, ap, subst, sym, ◌∙◌, arith}
 use Rattle.std.proofs.lemmas.Result.{err_from_is_err_and}
 use Rattle.pim_net.specs.declared.cover.Bit3.TheVariants.{Zero, One}
-use Rattle.pim_aig.specs.Chains.{chain_from, row_literals, literals_of, Built}
+use Rattle.pim_aig.specs.Chains.{chain_from, row_literals, Built}
+use Rattle.pim_aig.specs.inner.Tables.{literals_of}
 use Rattle.pim_aig.specs.Faults.{Says}
 use Rattle.pim_aig.specs.declared.literal.Lit.{Lit}
 use Rattle.pim_aig.proofs.Rows.{row_literals-drop}

@@ -1,6 +1,8 @@
 use Rattle.std.proofs.Common.{◌≡◌, [], drop, All}
-use Rattle.pim_aig.specs.Chains.{rows_from, literals_of}
-use Rattle.pim_aig.specs.Graph.{Grows, IsOfFirst, nodes}
+use Rattle.pim_aig.specs.Chains.{rows_from}
+use Rattle.pim_aig.specs.inner.Tables.{literals_of}
+use Rattle.pim_aig.specs.Graph.{IsOfFirst, nodes}
+use Rattle.pim_aig.specs.inner.Growing.{Grows}
 use Rattle.pim_aig.proofs.cover.rows.Given as goal
 
 abbrev pub invariant-loop-k : goal.invariant-loop-k

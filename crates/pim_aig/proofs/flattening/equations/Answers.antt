@@ -2,7 +2,7 @@ use Rattle.std.proofs.Common.{◌≡◌, ◌<◌, ℕ, List, All, length, get_or
 use Rattle.std.proofs.lemmas.Option.{slice_get_read}
 use Rattle.std.proofs.lemmas.Result.{err_from_is_err_and}
 use Rattle.pim_net.specs.declared.parts.Equation.{Equation}
-use Rattle.pim_aig.specs.Chains.{literals_of}
+use Rattle.pim_aig.specs.inner.Tables.{literals_of}
 use Rattle.pim_aig.specs.Flat.{equations_from}
 use Rattle.pim_aig.proofs.TableSteps.{equations_step, equations_fault}
 use Rattle.pim_aig.proofs.flattening.equations.Goals as goal

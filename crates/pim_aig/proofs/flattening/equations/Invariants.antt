@@ -1,7 +1,8 @@
 use Rattle.std.proofs.Common.{◌≡◌, All, drop, vec_len}
-use Rattle.pim_aig.specs.Chains.{literals_of}
+use Rattle.pim_aig.specs.inner.Tables.{literals_of}
 use Rattle.pim_aig.specs.Flat.{equations_from}
-use Rattle.pim_aig.specs.Graph.{Grows, IsOfFirst, nodes}
+use Rattle.pim_aig.specs.Graph.{IsOfFirst, nodes}
+use Rattle.pim_aig.specs.inner.Growing.{Grows}
 use Rattle.pim_aig.proofs.flattening.equations.Given as goal
 
 abbrev pub invariant-loop-k : goal.invariant-loop-k

@@ -1,5 +1,5 @@
 use Rattle.std.proofs.Common.{◌≡◌, ◌+◌, All, drop, length, vec_len}
-use Rattle.pim_aig.specs.Chains.{literals_of}
+use Rattle.pim_aig.specs.inner.Tables.{literals_of}
 use Rattle.pim_aig.specs.Flat.{inputs_from, no_literals}
 use Rattle.pim_aig.specs.Graph.{IsOfFirst}
 use Rattle.pim_aig.proofs.flattening.input_table.Given as goal

@@ -3,7 +3,7 @@ use Rattle.std.proofs.lemmas.Bool.{cases_lt, false_from_ne_true}
 use Rattle.std.proofs.lemmas.List.{get_or-drop, length-drop, take_rest}
 use Rattle.memchr.specs.Find.{Nowhere, Passes, is_byte}
 use Rattle.pim_io.specs.Lines.{is_newline}
-use Rattle.pim_vectors.specs.Next.{NoNewline}
+use Rattle.pim_vectors.specs.inner.Found.{NoNewline}
 use Rattle.pim_vectors.proofs.bytes.newline_from.Goals as goal
 
 -- no newline stands before the place where it was searched from, nor among the n bytes from there on

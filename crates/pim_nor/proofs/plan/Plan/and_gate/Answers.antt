@@ -1,5 +1,5 @@
 use Rattle.std.proofs.Common.{sym, ◌∙◌, ap}
-use Rattle.pim_nor.specs.Plans.{PlanView, literals_of}
+use Rattle.pim_nor.specs.inner.Plans.{PlanView, leaf_literals}
 use Rattle.pim_nor.proofs.AndGates.{two_gate, four_gate}
 use Rattle.pim_nor.proofs.plan.Plan.and_gate.Goals as goal
 
@@ -13,4 +13,4 @@ pub returns-in-Four : goal.returns-in-Four
 returns-in-Four c =
     let width = sym (ap (λ (p : PlanView). p.width) c.self.view_is) ∙ c.in-Four.is in
     let inputs = c.inputs-in-Four.ensures.count ∙ ap (λ (p : PlanView). p.graph.inputs) c.self.view_is in
-    four_gate c.args.self.now.graph c.args.self.now.width c.args.node c.inputs-in-Four.result c.and_at-and.result (literals_of c.widened.result) (literals_of c.widened-in-Four.result) c.nor-in-Four.result width inputs c.and_at-and.ensures c.widened.ensures.leaves c.widened-in-Four.ensures.leaves c.nor-in-Four.ensures
+    four_gate c.args.self.now.graph c.args.self.now.width c.args.node c.inputs-in-Four.result c.and_at-and.result (leaf_literals c.widened.result) (leaf_literals c.widened-in-Four.result) c.nor-in-Four.result width inputs c.and_at-and.ensures c.widened.ensures.leaves c.widened-in-Four.ensures.leaves c.nor-in-Four.ensures

@@ -4,7 +4,7 @@ use Rattle.pim_aig.specs.Graph.{AigView, IsAig}
 use Rattle.pim_nor.specs.Leaves.{leaves}
 use Rattle.pim_nor.specs.Named.{gate_at}
 use Rattle.pim_nor.specs.Network.{ReadsFirst}
-use Rattle.pim_nor.specs.Plans.{PlanView}
+use Rattle.pim_nor.specs.inner.Plans.{PlanView}
 use Rattle.pim_nor.specs.declared.network.Gate.{Gate}
 use Rattle.pim_nor.proofs.LeafLists.{leaves-AreLeaves}
 use Rattle.pim_nor.proofs.Sound.{gate_at-before}

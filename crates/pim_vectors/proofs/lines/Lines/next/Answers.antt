@@ -13,6 +13,8 @@ returns-in_err-sizes g c =
       record {
         line = tt;
         refused = λ other. answer_before _ _ _ _ _ sizes.took (sizes.refused other);
+        steady = tt;
+        spared = λ other. sizes.steady (λ e. other (cc));
         fault = λ e. sizes.counted (ap Err e);
         never_falls = sizes.never_falls;
         unread = sizes.unread;
@@ -28,6 +30,8 @@ returns-in_default g c =
       record {
         line = answer_before _ _ _ _ _ sizes.took (answer_at_end _ _ _ end);
         refused = tt;
+        steady = sizes.steady (λ e. cc);
+        spared = tt;
         fault = tt;
         never_falls = sizes.never_falls;
         unread = sizes.unread;
@@ -58,6 +62,8 @@ returns g c =
       record {
         line = answer_before _ _ _ _ _ sizes.took (answer_of_line v _ _ s _ next text);
         refused = tt;
+        steady = sizes.steady (λ e. cc);
+        spared = tt;
         fault = tt;
         never_falls = sizes.never_falls;
         unread = sizes.unread;

@@ -1,5 +1,6 @@
 use Rattle.std.proofs.Common.{ℕ, ◌*◌, ◌<◌, List, length, refl, sym, subst, ap, ◌∙◌}
-use Rattle.pim_vectors.specs.Tiles.{TileView, IsTile, column_of, with_column}
+use Rattle.pim_vectors.specs.Tiles.{TileView, column_of, with_column}
+use Rattle.pim_vectors.specs.inner.Kept.{IsTile}
 use Rattle.pim_vectors.proofs.TileLemmas.{column_in_slice, words_written, length-column_of, column_start, with_column_rows}
 use Rattle.pim_vectors.proofs.tile.Tile.column_mut.Goals as goal
 
@@ -22,6 +23,6 @@ returns c =
         lends = tt;
         value = value;
         long = ap length value ∙ length-column_of c.args.self.now c.args.k tile c.requires;
-        rows = λ column. with_column_rows c.args.self.now c.args.k column tile c.requires;
+        vectors = λ column. with_column_rows c.args.self.now c.args.k column tile c.requires;
       },
     )

@@ -4,5 +4,5 @@ use Rattle.pim_vectors.proofs.tile.Tile.unpack.Goals as goal
 
 pub returns : goal.returns
 returns c =
-    c.unpack_row.ensures
-    ∙ unpacked _ c.args.self.now c.deref.result.now _ c.args.row c.self.view_is c.deref.ensures.value c.requires.long c.requires.row
+    c.unpack_lane.ensures
+    ∙ unpacked _ c.args.self.now c.deref.result.now _ c.args.index c.self.view_is c.deref.ensures.value c.requires.long c.requires.lane

@@ -1,0 +1,3 @@
+-- Inner: definitions that private functions and representations cite, and no public contract.
+pub mod Growing
+pub mod Tables

@@ -1,0 +1,4 @@
+-- Inner: definitions that private functions and representations cite, and no public contract.
+pub mod Pins
+pub mod Plans
+pub mod Reading
