@@ -2,3 +2,10 @@ pub mod JudgedLines
 pub mod NextLine
 pub mod WalkStates
 pub mod WalkSteps
+pub mod Told
+pub mod StatusKinds
+pub mod Wholes
+pub mod RowsEnds
+pub mod CompileFine
+pub mod RunFine
+pub mod Clauses

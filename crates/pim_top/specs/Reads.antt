@@ -53,9 +53,9 @@ IsWithin (Some limit) bytes = length bytes ≤ limit
 abbrev pub IsOver : Option ℕ → List ℕ → Type 0
 IsOver limit bytes = OfLimit limit (λ most. most < length bytes)
 
--- the bytes are all that a source tells before the call, where it is read
+-- the bytes are all that a source tells before the call, where it is read; one that is not read counts as empty
 abbrev pub Tells : Option ℕ → Stream → List ℕ → Type 0
-Tells None s bytes = Unit {0}
+Tells None s bytes = bytes ≡ []
 Tells (Some limit) s bytes = s.before ≡ Some bytes
 
 -- a source that is read to its end has bytes within the limit of which this holds, where it tells them; one that is not read
