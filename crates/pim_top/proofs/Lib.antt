@@ -1,7 +1,4 @@
-pub mod Took
-pub mod FileRefusals
-pub mod Walking
+pub mod JudgedLines
+pub mod NextLine
+pub mod WalkStates
 pub mod WalkSteps
-pub mod Reading
-pub mod RunEnds
-pub mod CompileEnds
