@@ -8,10 +8,10 @@ use Rattle.pim_isa.specs.declared.instr.Ins.TheVariants as ins
 use Rattle.pim_isa.specs.declared.instr.Instr.{Instr}
 use Rattle.pim_isa.specs.declared.instr.Instr.TheVariants.{Init, Nor}
 use Rattle.pim_isa.specs.Programs.{ProgramView}
-use Rattle.pim_vectors.specs.Tiles.{TileView, row_of}
+use Rattle.pim_vectors.specs.Tiles.{TileView, vector_of}
 use Rattle.pim_io.specs.Lanes.{is_set, lane, column_in}
 use Rattle.pim_batch.specs.Tables.{result_line, table, tile_words, tile_rows}
-use Rattle.pim_batch.specs.Batches.{row_line, row_lines}
+use Rattle.pim_batch.specs.inner.TileLines.{row_line, row_lines}
 
 abbrev port : ℕ → Port
 port c = record { cell = c; label = 105 ∷ [] }
@@ -75,9 +75,9 @@ abbrev two_columns : TileView
 two_columns = record { columns = 2; words = 1; buffer = 5 ∷ 6 ∷ [] }
 
 third_line : row_line two_columns 2 ≡ codes "11\n"
-unfolding row_of column_in lane is_set
+unfolding vector_of column_in lane is_set
 third_line = refl
 
 first_lines : row_lines two_columns 2 ≡ codes "10\n01\n"
-unfolding row_of column_in lane is_set
+unfolding vector_of column_in lane is_set
 first_lines = refl

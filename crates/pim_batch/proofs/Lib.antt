@@ -1,4 +1,3 @@
-pub mod Took
 pub mod RowLemmas
 pub mod BatchLemmas
 mod Examples

@@ -14,13 +14,13 @@ use Rattle.pim_isa.specs.Steps.{bit}
 use Rattle.pim_isa.specs.Results.{with_inputs}
 use Rattle.pim_isa.specs.Sound.{cells_of}
 use Rattle.pim_lanes.specs.Banks.{BankView, row_of, SameFrame}
-use Rattle.pim_vectors.specs.Tiles.{TileView, column_of as tile_column, row_of as tile_row}
-use Rattle.pim_batch.specs.Batches.{row_line, row_lines, row_lines_from}
+use Rattle.pim_vectors.specs.Tiles.{TileView, column_of as tile_column, vector_of}
+use Rattle.pim_batch.specs.inner.TileLines.{row_line, row_lines_from}
 
 -- ---- rows
-pub length-tile_row : (t : TileView) (r : ℕ) → length (tile_row t r) ≡ t.columns
-unfolding tile_row
-length-tile_row t r = length-map-range_with_len (λ (c : ℕ). lane (tile_column t c) r) 0 t.columns
+pub length-vector_of : (t : TileView) (r : ℕ) → length (vector_of t r) ≡ t.columns
+unfolding vector_of
+length-vector_of t r = length-map-range_with_len (λ (c : ℕ). lane (tile_column t c) r) 0 t.columns
 
 -- what stays in two steps
 pub frame_then : (a b c : BankView) → SameFrame a b → SameFrame b c → SameFrame a c
@@ -56,30 +56,30 @@ with_inputs-drop (p ∷ ps) (b ∷ bits) m (suc k) d small long =
 
 -- one more column of inputs was put into its cell
 pub loaded_more : (ports : List Port) (t : TileView) (r k : ℕ) (p : Port) (words : List ℕ) (old new m : List Bool) →
-    p ≡ get_or ports k p → k < length ports → t.columns ≡ length ports → lane words r ≡ get_or (tile_row t r) k false → new ≡ set old p.cell (lane words r) →
-    with_inputs (drop k ports) (drop k (tile_row t r)) old ≡ m → with_inputs (drop (k + 1) ports) (drop (k + 1) (tile_row t r)) new ≡ m
+    p ≡ get_or ports k p → k < length ports → t.columns ≡ length ports → lane words r ≡ get_or (vector_of t r) k false → new ≡ set old p.cell (lane words r) →
+    with_inputs (drop k ports) (drop k (vector_of t r)) old ≡ m → with_inputs (drop (k + 1) ports) (drop (k + 1) (vector_of t r)) new ≡ m
 loaded_more ports t r k p words old new m is small columns bit_is new_is before =
-    let rest : List Bool → List Bool = λ l. with_inputs (drop (k + 1) ports) (drop (k + 1) (tile_row t r)) l in
+    let rest : List Bool → List Bool = λ l. with_inputs (drop (k + 1) ports) (drop (k + 1) (vector_of t r)) l in
     ap rest new_is
     ∙ ap (λ (b : Bool). rest (set old p.cell b)) bit_is
-    ∙ ap (λ (q : Port). rest (set old q.cell (get_or (tile_row t r) k false))) is
-    ∙ sym (with_inputs-drop ports (tile_row t r) old k p small (length-tile_row t r ∙ columns))
+    ∙ ap (λ (q : Port). rest (set old q.cell (get_or (vector_of t r) k false))) is
+    ∙ sym (with_inputs-drop ports (vector_of t r) old k p small (length-vector_of t r ∙ columns))
     ∙ before
 
 -- ---- outputs
 -- one more column of results was written
 pub gathered_more : (ports : List Port) (b : BankView) (t : TileView) (r k : ℕ) (p : Port) (words : List ℕ) (new : List Bool) →
-    p ≡ get_or ports k p → k < length ports → t.columns ≡ length ports → lane words r ≡ bit (row_of b r) p.cell → new ≡ set (tile_row t r) k (lane words r) →
-    ((j : ℕ) → j < k → get_or (tile_row t r) j false ≡ bit (row_of b r) (get_or (cells_of ports) j 0)) →
+    p ≡ get_or ports k p → k < length ports → t.columns ≡ length ports → lane words r ≡ bit (row_of b r) p.cell → new ≡ set (vector_of t r) k (lane words r) →
+    ((j : ℕ) → j < k → get_or (vector_of t r) j false ≡ bit (row_of b r) (get_or (cells_of ports) j 0)) →
     (j : ℕ) → j < k + 1 → get_or new j false ≡ bit (row_of b r) (get_or (cells_of ports) j 0)
 gathered_more ports b t r k p words new is small columns bit_is new_is before =
     below_more (λ (j : ℕ). get_or new j false ≡ bit (row_of b r) (get_or (cells_of ports) j 0)) k
     (λ j below.
     ap (λ (l : List Bool). get_or l j false) new_is
-    ∙ get_or-set_other (tile_row t r) k j (lane words r) false (λ e. omega arith)
+    ∙ get_or-set_other (vector_of t r) k j (lane words r) false (λ e. omega arith)
     ∙ before j below)
     (ap (λ (l : List Bool). get_or l k false) new_is
-    ∙ get_or-set_same (tile_row t r) k (lane words r) false (omega (arith, length-tile_row t r))
+    ∙ get_or-set_same (vector_of t r) k (lane words r) false (omega (arith, length-vector_of t r))
     ∙ bit_is
     ∙ ap (bit (row_of b r)) (sym (get_or-cells_of ports k p small is)))
 
@@ -89,17 +89,17 @@ map-cells_of f (p ∷ ps) = ap (λ (l : List Bool). f p.cell ∷ l) (map-cells_o
 
 -- all columns of results were written
 pub gathered : (ports all : List Port) (b : BankView) (t : TileView) (r k : ℕ) → ports ≡ all → t.columns ≡ length ports → length ports ≤ k →
-    ((j : ℕ) → j < k → get_or (tile_row t r) j false ≡ bit (row_of b r) (get_or (cells_of ports) j 0)) →
-    tile_row t r ≡ map (λ o. bit (row_of b r) o.cell) all
+    ((j : ℕ) → j < k → get_or (vector_of t r) j false ≡ bit (row_of b r) (get_or (cells_of ports) j 0)) →
+    vector_of t r ≡ map (λ o. bit (row_of b r) o.cell) all
 gathered ports all b t r k same columns past before =
-    let P : List Port → Type 0 = λ l. tile_row t r ≡ map (λ o. bit (row_of b r) o.cell) l in
+    let P : List Port → Type 0 = λ l. vector_of t r ≡ map (λ o. bit (row_of b r) o.cell) l in
     let cells : ℕ = length (cells_of ports) in
     let many : length (cells_of ports) ≡ length ports = length-map ports (λ (q : Port). q.cell) in
     subst P same
-    (ext_get_or false (tile_row t r) (map (bit (row_of b r)) (cells_of ports))
-    (length-tile_row t r ∙ columns ∙ sym (length-map (cells_of ports) (bit (row_of b r)) ∙ many))
+    (ext_get_or false (vector_of t r) (map (bit (row_of b r)) (cells_of ports))
+    (length-vector_of t r ∙ columns ∙ sym (length-map (cells_of ports) (bit (row_of b r)) ∙ many))
     (λ j within.
-    let small : j < length ports = omega (arith, length-tile_row t r) in
+    let small : j < length ports = omega (arith, length-vector_of t r) in
     before j (omega arith) ∙ sym (get_or-map (bit (row_of b r)) (cells_of ports) j 0 false (omega arith)))
     ∙ map-cells_of (bit (row_of b r)) ports)
 
@@ -128,10 +128,12 @@ row_lines-add t a n m =
     ap (flat_map (row_line t)) (range-add a n m)
     ∙ flat_map-append (row_line t) (range_with_len a n) (range_with_len (a + n) m)
 
-pub row_lines-first : (t : TileView) (n m : ℕ) → row_lines t (n + m) ≡ row_lines t n ++ row_lines_from t n m
-row_lines-first t n m =
-    let same : 0 + n ≡ n = omega arith in
-    row_lines-add t 0 n m ∙ ap (λ (a : ℕ). row_lines t n ++ row_lines_from t a m) same
+-- the lines that are left are the next ones and those behind them
+pub row_lines-cut : (t : TileView) (from n lanes : ℕ) → from + n ≤ lanes →
+    row_lines_from t from (lanes - from) ≡ row_lines_from t from n ++ row_lines_from t (from + n) (lanes - (from + n))
+row_lines-cut t from n lanes within =
+    let left : lanes - from ≡ n + (lanes - (from + n)) = omega arith in
+    ap (row_lines_from t from) left ∙ row_lines-add t from n (lanes - (from + n))
 
 -- one more row's line
 pub row_lines-more : (t : TileView) (a n : ℕ) → row_lines_from t a (n + 1) ≡ row_lines_from t a n ++ row_line t (a + n)

@@ -1,11 +1,9 @@
 -- Vectors that are executed together.
-use Rattle.std.specs.Prelude.{◌≡◌, ℕ, ◌+◌, ◌*◌, ◌≤◌, ◌++◌, ◌∷◌, [], Bool, List, length}
+use Rattle.std.specs.Prelude.{◌≡◌, ℕ, ◌+◌, ◌*◌, ◌≤◌, Bool, List, length}
 use Rattle.pim_isa.specs.Programs.{ProgramView}
 use Rattle.pim_isa.specs.declared.target.Fill.{Fill}
 use Rattle.pim_lanes.specs.Banks.{BankView}
-use Rattle.std.specs.List.{flat_map, range_with_len}
-use Rattle.pim_io.specs.Bits.{line_of}
-use Rattle.pim_vectors.specs.Tiles.{TileView, row_of}
+use Rattle.pim_vectors.specs.Tiles.{TileView}
 use Rattle.pim_batch.specs.Tables.{tile_rows, tile_words}
 
 -- the program, the filling of its other cells, and the bits of the vectors that are packed
@@ -26,15 +24,3 @@ pub record IsBatch (p : ProgramView) (bank : BankView) (vectors results : TileVi
   pub line_room : length p.outputs + 1 ≤ length chunk
   pub row_room : rows ≤ 64 * tile_words p
   pub most : limit ≡ tile_rows p
-
--- a row of a tile as a line
-abbrev pub row_line : TileView → ℕ → List ℕ
-row_line t r = line_of (row_of t r) ++ 10 ∷ []
-
--- so many rows of a tile from one of them on, a line for each
-abbrev pub row_lines_from : TileView → ℕ → ℕ → List ℕ
-row_lines_from t from count = flat_map (row_line t) (range_with_len from count)
-
--- the first rows of a tile, a line for each
-abbrev pub row_lines : TileView → ℕ → List ℕ
-row_lines t rows = row_lines_from t 0 rows

@@ -1,6 +1,6 @@
 ghost use Rattle.std.specs.Prelude.{◌≡◌, ◌+◌, ◌*◌, ◌<◌, ◌≤◌, ◌++◌, ◌∷◌, ◌↔◌, [], length, IsTrue, OnOk, OnErr, IfOk};
 ghost use Rattle.pim_io.specs.Bits.{bits_of};
-ghost use Rattle.pim_io.specs.Outside.{Rose, TookAll, TookFirst};
+ghost use Rattle.pim_io.specs.Outside.{Wrote};
 ghost use Rattle.pim_vectors.specs.Tiles.{IsVector};
 ghost use Rattle.pim_batch.specs.Tables.{table, tile_rows, tile_words};
 
@@ -34,7 +34,7 @@ pub struct Batch<'a> {
 impl<'a> Model for Batch<'a> {
     ghost use Rattle.std.specs.Prelude.{map};
     ghost use Rattle.std.specs.List.{range_with_len};
-    ghost use Rattle.pim_vectors.specs.Tiles.{row_of};
+    ghost use Rattle.pim_vectors.specs.Tiles.{vector_of};
     ghost use Rattle.pim_batch.specs.Batches.{BatchView, IsBatch};
 
     ghost Value = { BatchView };
@@ -42,7 +42,7 @@ impl<'a> Model for Batch<'a> {
     ghost view = { λ b. record {
       program = b.program.now;
       fill = b.fill;
-      vectors = map (row_of b.vectors) (range_with_len 0 b.rows);
+      vectors = map (vector_of b.vectors) (range_with_len 0 b.rows);
     } };
 
     ghost invariant = { λ b. IsBatch b.program.now b.bank b.vectors b.results b.chunk.items b.rows b.most };

@@ -1,6 +1,6 @@
 ghost use Rattle.std.specs.Prelude.{◌≡◌, ◌<◌, ◌≤◌, ◌++◌, ◌∷◌, ◌↔◌, [], Bool, List, length, IsTrue, OnOk, OnErr};
 ghost use Rattle.pim_io.specs.Bits.{bits_of};
-ghost use Rattle.pim_io.specs.Outside.{Rose, TookAll, TookFirst};
+ghost use Rattle.pim_io.specs.Outside.{Wrote};
 ghost use Rattle.pim_vectors.specs.Tiles.{IsVector};
 ghost use Rattle.pim_batch.specs.Runners.{Runner, results};
 
@@ -29,9 +29,8 @@ pub trait Executor {
     /// Executes the rows that are packed and writes the line of results of each, in order; none is packed then. After a fault
     /// they are still packed.
     fn flush<K: Sink>(&mut self, output: &mut K) -> Result<(), SinkFault>
-        ensures whole { OnOk result (TookAll (K.taken output.old) (K.taken output.new) (results (runner self.old) (rows self.old))) }
-        ensures prefix { OnErr result (TookFirst (K.taken output.old) (K.taken output.new) (results (runner self.old) (rows self.old))) }
-        ensures counted { OnErr result (Rose (K.faults output.old) (K.faults output.new)) }
+        ensures wrote { Wrote result (K.taken output.old) (K.taken output.new) (K.faults output.old) (K.faults output.new)
+            (results (runner self.old) (rows self.old)) }
         ensures never_falls { K.faults output.old ≤ K.faults output.new }
         ensures emptied { OnOk result (rows self.new ≡ []) }
         ensures stays { OnErr result (rows self.new ≡ rows self.old) }

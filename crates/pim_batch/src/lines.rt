@@ -1,38 +1,38 @@
-ghost use Rattle.std.specs.Prelude.{◌≡◌, ◌+◌, ◌*◌, ◌^◌, ◌<◌, ◌≤◌, length, OnOk, OnErr};
-ghost use Rattle.pim_io.specs.Outside.{Rose, TookAll, TookFirst};
-ghost use Rattle.pim_batch.specs.Batches.{row_line, row_lines, row_lines_from};
+ghost use Rattle.std.specs.Prelude.{◌≡◌, ◌+◌, ◌*◌, ◌^◌, ◌<◌, ◌≤◌, length};
+ghost use Rattle.pim_io.specs.Outside.{Wrote};
+ghost use Rattle.pim_batch.specs.inner.TileLines.{row_line, row_lines, row_lines_from};
 
-use pim_io::{Sink, SinkFault, write_all};
+use pim_io::{Sink, SinkFault, tell_writes, write_all};
 use pim_vectors::Tile;
 
-/// Writes the first rows of a tile, a line of characters for each, as many lines at once as the chunk has room for. A line takes
-/// `width` bytes with its newline.
+/// Writes the vectors in the first lanes of a tile, a line of characters for each, as many lines at once as the chunk has room
+/// for. A line takes `width` bytes with its newline.
 pub(crate) fn write_results<K: Sink>(
     results: &Tile,
-    rows: u32,
+    lanes: u32,
     width: usize,
     chunk: &mut [u8],
     output: &mut K,
 ) -> Result<(), SinkFault>
-    requires rows { rows ≤ 64 * results.now.words }
+    requires lanes { lanes ≤ 64 * results.now.words }
     requires width { width ≡ results.now.columns + 1 }
     requires room { width ≤ length chunk.old }
-    ensures whole { OnOk result (TookAll (K.taken output.old) (K.taken output.new) (row_lines results.now rows)) }
-    ensures prefix { OnErr result (TookFirst (K.taken output.old) (K.taken output.new) (row_lines results.now rows)) }
-    ensures counted { OnErr result (Rose (K.faults output.old) (K.faults output.new)) }
+    ensures wrote { Wrote result (K.taken output.old) (K.taken output.new) (K.faults output.old) (K.faults output.new)
+        (row_lines results.now lanes) }
     ensures never_falls { K.faults output.old ≤ K.faults output.new }
     ensures room { length chunk.new ≡ length chunk.old }
 {
+    tell_writes();
     let mut from = 0;
-    while from < rows {
-        let count = count_at_once(rows - from, width, chunk);
-        write_rows(results, from, count, width, chunk, output)?;
+    while from < lanes {
+        let count = count_at_once(lanes - from, width, chunk);
+        write_lanes(results, from, count, width, chunk, output)?;
         from += count;
     }
     Ok(())
 }
 
-/// How many of the rows that are left are written at once: as many as have room in the chunk.
+/// How many of the lanes that are left are written at once: as many as have room in the chunk.
 fn count_at_once(left: u32, width: usize, chunk: &[u8]) -> u32
     requires left { 0 < left }
     requires width { 0 < width }
@@ -44,8 +44,8 @@ fn count_at_once(left: u32, width: usize, chunk: &[u8]) -> u32
     (left as usize).min(chunk.len() / width) as u32
 }
 
-/// Writes some rows of a tile at once, a line of characters for each; the chunk is room for them.
-fn write_rows<K: Sink>(
+/// Writes some lanes of a tile at once, a line of characters for each; the chunk is room for them.
+fn write_lanes<K: Sink>(
     results: &Tile,
     from: u32,
     count: u32,
@@ -53,24 +53,23 @@ fn write_rows<K: Sink>(
     chunk: &mut [u8],
     output: &mut K,
 ) -> Result<(), SinkFault>
-    requires rows { from + count ≤ 64 * results.now.words }
+    requires lanes { from + count ≤ 64 * results.now.words }
     requires fits { from + count < 2 ^ 32 }
     requires width { width ≡ results.now.columns + 1 }
     requires room { count * width ≤ length chunk.old }
-    ensures whole { OnOk result (TookAll (K.taken output.old) (K.taken output.new) (row_lines_from results.now from count)) }
-    ensures prefix { OnErr result (TookFirst (K.taken output.old) (K.taken output.new) (row_lines_from results.now from count)) }
-    ensures counted { OnErr result (Rose (K.faults output.old) (K.faults output.new)) }
+    ensures wrote { Wrote result (K.taken output.old) (K.taken output.new) (K.faults output.old) (K.faults output.new)
+        (row_lines_from results.now from count) }
     ensures never_falls { K.faults output.old ≤ K.faults output.new }
     ensures room { length chunk.new ≡ length chunk.old }
 {
     let lines = &mut chunk[..count as usize * width];
-    put_rows(results, from, count, width, lines);
+    put_lines(results, from, count, width, lines);
     write_all(output, lines)
 }
 
-/// Fills a list with rows of a tile, a line of characters for each.
-fn put_rows(results: &Tile, from: u32, count: u32, width: usize, lines: &mut [u8])
-    requires rows { from + count ≤ 64 * results.now.words }
+/// Fills a list with lanes of a tile, a line of characters for each.
+fn put_lines(results: &Tile, from: u32, count: u32, width: usize, lines: &mut [u8])
+    requires lanes { from + count ≤ 64 * results.now.words }
     requires fits { from + count < 2 ^ 32 }
     requires width { width ≡ results.now.columns + 1 }
     requires long { length lines.old ≡ count * width }
@@ -79,19 +78,19 @@ fn put_rows(results: &Tile, from: u32, count: u32, width: usize, lines: &mut [u8
 {
     let mut at = 0;
     for k in 0..count {
-        put_row(results, from + k, &mut lines[at..at + width]);
+        put_line(results, from + k, &mut lines[at..at + width]);
         at += width;
     }
 }
 
-/// Fills a list with one row of a tile as a line of characters, with a newline behind it.
-fn put_row(results: &Tile, row: u32, line: &mut [u8])
-    requires row { row < 64 * results.now.words }
+/// Fills a list with one lane of a tile as a line of characters, with a newline behind it.
+fn put_line(results: &Tile, index: u32, line: &mut [u8])
+    requires lane { index < 64 * results.now.words }
     requires long { length line.old ≡ results.now.columns + 1 }
-    ensures value { line.new ≡ row_line results.now row }
+    ensures value { line.new ≡ row_line results.now index }
     ensures long { length line.new ≡ length line.old }
 {
     let columns = line.len() - 1;
-    results.unpack(row, &mut line[..columns]);
+    results.unpack(index, &mut line[..columns]);
     line[columns] = b'\n';
 }

@@ -2,7 +2,7 @@ ghost use Rattle.std.specs.Prelude.{◌≡◌, ℕ, ◌*◌, ◌<◌, length, ma
 ghost use Rattle.pim_isa.specs.Results.{load};
 ghost use Rattle.pim_isa.specs.Steps.{bit};
 ghost use Rattle.pim_lanes.specs.Banks.{row_of, SameFrame};
-ghost use Rattle.pim_vectors.specs.Tiles.{row_of as tile_row};
+ghost use Rattle.pim_vectors.specs.Tiles.{vector_of};
 
 use pim_isa::{Fill, Program};
 use pim_lanes::Bank;
@@ -13,7 +13,7 @@ pub(crate) fn load_vectors(bank: &mut Bank, program: &Program, fill: Fill, vecto
     requires cells { bank.old.cells ≡ program.now.cells }
     requires columns { vectors.now.columns ≡ length program.now.inputs }
     requires words { vectors.now.words ≡ bank.old.words }
-    ensures rows { (r : ℕ) → r < 64 * bank.old.words → row_of bank.new r ≡ load program.now fill (tile_row vectors.now r) }
+    ensures rows { (r : ℕ) → r < 64 * bank.old.words → row_of bank.new r ≡ load program.now fill (vector_of vectors.now r) }
     ensures frame { SameFrame bank.old bank.new }
 {
     bank.fill(fill);
@@ -28,7 +28,7 @@ pub(crate) fn gather_results(results: &mut Tile, program: &Program, bank: &Bank)
     requires columns { results.old.columns ≡ length program.now.outputs }
     requires words { results.old.words ≡ bank.now.words }
     ensures rows { (r : ℕ) → r < 64 * bank.now.words
-        → tile_row results.new r ≡ map (λ o. bit (row_of bank.now r) o.cell) program.now.outputs }
+        → vector_of results.new r ≡ map (λ o. bit (row_of bank.now r) o.cell) program.now.outputs }
     ensures columns { results.new.columns ≡ results.old.columns }
     ensures words { results.new.words ≡ results.old.words }
 {

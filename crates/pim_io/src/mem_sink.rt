@@ -114,8 +114,8 @@ impl Sink for MemSink {
             self.faults = self.faults.saturating_add(1);
             return Err(SinkFault);
         }
-        let most = self.chunk.min(self.room - self.bytes.len());
-        let n = piece.len().min(most);
+        let room = self.chunk.min(self.room - self.bytes.len());
+        let n = piece.len().min(room);
         let Ok(()) = self.bytes.extend_from_slice(&piece[..n]) else {
             unreachable!();
         };

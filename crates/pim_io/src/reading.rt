@@ -41,11 +41,11 @@ pub fn read_all<S: Source>(
     ensures fault { result ≡ Err ReadAllFault.Fault → Rose (S.faults source.old) (S.faults source.new) }
     ensures never_falls { S.faults source.old ≤ S.faults source.new }
 {
-    let most = limit as usize + 1;
+    let too_many = limit as usize + 1;
     let mut bytes = Vec::new(alloc);
     let mut chunk = [0; CHUNK];
-    while bytes.len() < most {
-        let room = chunk.len().min(most - bytes.len());
+    while bytes.len() < too_many {
+        let room = chunk.len().min(too_many - bytes.len());
         if read_on(source, &mut bytes, &mut chunk[..room])? == 0 {
             return Ok(bytes);
         }
@@ -53,7 +53,7 @@ pub fn read_all<S: Source>(
     Err(ReadAllFault::TooLong)
 }
 
-/// Appends what one read of a source gives into a buffer that is not empty, and says how many bytes that is: 0 at the end.
+/// Appends what one read of a source gives into a buffer that is not empty, and returns how many bytes that is: 0 at the end.
 /// The memory is taken before the bytes are.
 fn read_on<S: Source>(
     source: &mut S,

@@ -16,7 +16,7 @@ pub trait Sink {
     /// How many writes failed, up to the greatest number that the count can hold.
     ghost faults: { Self → ℕ };
 
-    /// Takes some bytes from the front of `piece`, at least one, and says how many. A fault raises the count, and nothing
+    /// Takes some bytes from the front of `piece`, at least one, and returns how many. A fault raises the count, and nothing
     /// else does.
     /// What it does on an empty piece is left open, but for the count and the bytes that a fault leaves.
     fn write(&mut self, piece: &[u8]) -> Result<usize, SinkFault>

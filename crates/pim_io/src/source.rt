@@ -16,7 +16,7 @@ pub trait Source {
     /// How many reads failed, up to the greatest number that the count can hold.
     ghost faults: { Self → ℕ };
 
-    /// Reads some of the bytes that are left into the front of `buf`, and says how many: 0 at the end of the input. A fault
+    /// Reads some of the bytes that are left into the front of `buf`, and returns how many: 0 at the end of the input. A fault
     /// raises the count, and nothing else does.
     /// What it does on an empty buffer is left open, but for the count and the bytes that a fault leaves.
     fn read(&mut self, buf: &mut [u8]) -> Result<usize, SourceFault>

@@ -1,5 +1,5 @@
-ghost use Rattle.std.specs.Prelude.{◌≤◌, [], map, OnOk, OnErr};
-ghost use Rattle.pim_io.specs.Outside.{Rose, TookAll, TookFirst, Wrote, with_pieces};
+ghost use Rattle.std.specs.Prelude.{◌≤◌, [], map};
+ghost use Rattle.pim_io.specs.Outside.{Wrote, with_pieces};
 ghost use Rattle.pim_io.specs.Writes.{WritesAddUp};
 
 use crate::{Sink, SinkFault};
@@ -8,9 +8,6 @@ use crate::{Sink, SinkFault};
 /// each takes at least one byte.
 pub fn write_all<K: Sink>(sink: &mut K, piece: &[u8]) -> Result<(), SinkFault>
     ensures wrote { Wrote result (K.taken sink.old) (K.taken sink.new) (K.faults sink.old) (K.faults sink.new) piece.now }
-    ensures whole { OnOk result (TookAll (K.taken sink.old) (K.taken sink.new) piece.now) }
-    ensures prefix { OnErr result (TookFirst (K.taken sink.old) (K.taken sink.new) piece.now) }
-    ensures counted { OnErr result (Rose (K.faults sink.old) (K.faults sink.new)) }
     ensures never_falls { K.faults sink.old ≤ K.faults sink.new }
 {
     let mut at = 0;

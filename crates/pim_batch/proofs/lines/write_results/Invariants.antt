@@ -1,16 +1,19 @@
-use Rattle.std.proofs.Common.{◌≡◌, ◌≤◌, ◌-◌, length}
-use Rattle.pim_io.specs.Outside.{TookAll}
-use Rattle.pim_batch.specs.Batches.{row_lines}
+use Rattle.std.proofs.Common.{◌≡◌, ◌≤◌, ◌-◌, ℕ, List, Option, length}
+use Rattle.pim_io.specs.Outside.{Wrote}
+use Rattle.pim_io.specs.Writes.{Written}
+use Rattle.pim_batch.specs.inner.TileLines.{row_lines, row_lines_from}
 use Rattle.pim_batch.proofs.lines.write_results.Given as goal
 
--- the sink took the lines of the rows so far
+-- what writes the lines that are left writes, with what was written, all lines
 abbrev pub invariant-loop-from : goal.invariant-loop-from
 invariant-loop-from g l = record {
-  never_falls : g.K.Sink.faults l.initial.output ≤ g.K.Sink.faults l.output;
-  whole : TookAll (g.K.Sink.taken l.initial.output) (g.K.Sink.taken l.output) (row_lines l.results l.from);
-  within : l.from ≤ l.rows;
+  same : g.K.Sink.faults l.output ≡ g.K.Sink.faults l.initial.output;
+  rest : (result : Written) (taken : Option (List ℕ)) (faults : ℕ) →
+      Wrote result (g.K.Sink.taken l.output) taken (g.K.Sink.faults l.output) faults (row_lines_from l.results l.from (l.lanes - l.from)) →
+      Wrote result (g.K.Sink.taken l.initial.output) taken (g.K.Sink.faults l.initial.output) faults (row_lines l.results l.lanes);
+  within : l.from ≤ l.lanes;
   room : length l.chunk ≡ length l.initial.chunk;
 }
 
 abbrev pub decreases-loop-from : goal.decreases-loop-from
-decreases-loop-from g l = l.rows - l.from
+decreases-loop-from g l = l.lanes - l.from

@@ -20,7 +20,7 @@ loop-k-preserved c =
       rows = λ r small.
           gathered_more items.result.now c.args.bank.now c.loop-k.results r c.loop-k.k c.port-item.result c.column.result.now _ c.port-item.is c.loop-k-test.true
           (sizes.columns ∙ c.requires.columns ∙ sym (ap length items.ensures.value)) (c.column.ensures.lanes (omega (arith, c.requires.cells)) r small)
-          (c.put_column.ensures.rows r (omega (arith, sizes.words, c.requires.words))) (c.loop-k.invariant.rows r small);
+          (c.put_column.ensures.vectors r (omega (arith, sizes.words, c.requires.words))) (c.loop-k.invariant.rows r small);
       sizes = record { columns = put.columns ∙ sizes.columns; words = put.words ∙ sizes.words };
     }
 

@@ -21,7 +21,7 @@ returns-in_err-flush-clause-refused g c =
     rw (p.1, p.2)
     (cut-end (g.S.Source.left c.args.input.now) (g.S.Source.left c.take_up.new.input) (g.K.Sink.taken c.args.output.now) (g.K.Sink.taken c.flush.new.output) runner
     c.args.lines.now c.take_up.new.lines (g.E.Executor.rows c.args.executor.now) packed
-    (rw c.if-not-branch.true at c.in_ok-take_up.ensures.goes) (subst F c.take_up.ensures.same c.in_err-flush.ensures.prefix))
+    (rw c.if-not-branch.true at c.in_ok-take_up.ensures.goes) (subst F c.take_up.ensures.same c.in_err-flush.ensures.wrote.0))
 
 pub returns-then-not-branch-clause-goes : goal.returns-then-not-branch-clause-goes
 returns-then-not-branch-clause-goes g c =
@@ -30,7 +30,7 @@ returns-then-not-branch-clause-goes g c =
     let F : Runner → Type 0 = λ r. TookAll (g.K.Sink.taken c.args.output.now) (g.K.Sink.taken c.flush.new.output) (results r packed) in
     step-end (g.S.Source.left c.args.input.now) (g.S.Source.left c.take_up.new.input) (g.K.Sink.taken c.args.output.now) (g.K.Sink.taken c.flush.new.output) runner
     c.args.lines.now c.take_up.new.lines (g.E.Executor.rows c.args.executor.now) packed
-    (rw c.if-not-branch.true at c.in_ok-take_up.ensures.goes) (subst F c.take_up.ensures.same c.in_ok-flush.ensures.whole)
+    (rw c.if-not-branch.true at c.in_ok-take_up.ensures.goes) (subst F c.take_up.ensures.same c.in_ok-flush.ensures.wrote.0)
 
 pub returns-then-not-is_full-clause-goes : goal.returns-then-not-is_full-clause-goes
 returns-then-not-is_full-clause-goes g c =
@@ -47,7 +47,7 @@ returns-in_err-flush-2-clause-refused g c =
     rw (p.1, p.2)
     (cut-full (g.S.Source.left c.args.input.now) (g.S.Source.left c.take_up.new.input) (g.K.Sink.taken c.args.output.now) (g.K.Sink.taken c.flush-2.new.output) runner
     c.args.lines.now c.take_up.new.lines (g.E.Executor.rows c.args.executor.now) packed
-    (rw c.if-not-branch.false at c.in_ok-take_up.ensures.goes) (subst F c.take_up.ensures.same c.in_err-flush-2.ensures.prefix))
+    (rw c.if-not-branch.false at c.in_ok-take_up.ensures.goes) (subst F c.take_up.ensures.same c.in_err-flush-2.ensures.wrote.0))
 
 pub returns-clause-goes : goal.returns-clause-goes
 returns-clause-goes g c =
@@ -58,10 +58,10 @@ returns-clause-goes g c =
     step-full (g.S.Source.left c.args.input.now) (g.S.Source.left c.take_up.new.input) (g.K.Sink.taken c.args.output.now) (g.K.Sink.taken c.flush-2.new.output) runner
     c.args.lines.now c.take_up.new.lines (g.E.Executor.rows c.args.executor.now) packed (g.E.Executor.rows c.flush-2.new.self)
     (rw c.if-not-branch.false at c.in_ok-take_up.ensures.goes) (subst T c.take_up.ensures.same (c.is_full.ensures.full.0 c.if-not-is_full.false))
-    c.in_ok-flush-2.ensures.emptied (subst F c.take_up.ensures.same c.in_ok-flush-2.ensures.whole)
+    c.in_ok-flush-2.ensures.emptied (subst F c.take_up.ensures.same c.in_ok-flush-2.ensures.wrote.0)
 
 pub returns-then-not-branch-clause-output_steady : goal.returns-then-not-branch-clause-output_steady
-returns-then-not-branch-clause-output_steady g c = ?
+returns-then-not-branch-clause-output_steady g c = c.in_ok-flush.ensures.wrote.1
 
 pub returns-clause-output_steady : goal.returns-clause-output_steady
-returns-clause-output_steady g c = ?
+returns-clause-output_steady g c = c.in_ok-flush-2.ensures.wrote.1

@@ -4,8 +4,8 @@ use Rattle.pim_batch.specs.Tables.{tile_words}
 use Rattle.pim_batch.proofs.BatchLemmas.{row_free, pushed}
 use Rattle.pim_batch.proofs.batch.BatchExecutor.push.Goals as goal
 
-pub pack-requires-clause-row : goal.pack-requires-clause-row
-pack-requires-clause-row c =
+pub pack-requires-clause-lane : goal.pack-requires-clause-lane
+pack-requires-clause-lane c =
     row_free _ c.args.self.now c.self.inside.vectors c.self.inside.rows c.self.inside.vectors.words c.self.view_is refl c.self.invariant.vector_words c.requires.room
 
 pub invariant_of-self : goal.invariant_of-self
@@ -32,4 +32,4 @@ returns-clause-pushed c =
     ap (λ (b : BatchView). b.vectors)
     (pushed _ c.args.self.now c.self.inside.vectors c.pack.new.self c.self.inside.rows c.args.line.now c.self.view_is refl
     (row_free _ c.args.self.now c.self.inside.vectors c.self.inside.rows c.self.inside.vectors.words c.self.view_is refl c.self.invariant.vector_words c.requires.room)
-    c.pack.ensures.rows)
+    c.pack.ensures.vectors)

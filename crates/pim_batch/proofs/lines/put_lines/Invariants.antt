@@ -1,6 +1,6 @@
 use Rattle.std.proofs.Common.{◌≡◌, ◌+◌, ◌-◌, ◌*◌, length, take}
-use Rattle.pim_batch.specs.Batches.{row_lines_from}
-use Rattle.pim_batch.proofs.lines.put_rows.Given as goal
+use Rattle.pim_batch.specs.inner.TileLines.{row_lines_from}
+use Rattle.pim_batch.proofs.lines.put_lines.Given as goal
 
 -- the front of the list is the lines of the rows so far, and there is room for those that are left
 abbrev pub invariant-loop-k : goal.invariant-loop-k
