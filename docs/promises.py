@@ -34,7 +34,7 @@ def main():
     functions, missing = clauses_of_functions(), []
     for line in PAGE.read_text().split("\n"):
         cells = line.strip("|").split(" | ")
-        if not line.startswith("| ") or cells[0].strip() in ("promise", "wrong body") or cells[-1].strip().startswith("pim_"):
+        if not line.startswith("| ") or cells[0].strip() in ("promise", "law", "wrong body") or cells[-1].strip().startswith("pim_"):
             continue
         calls = list(functions_in(cells[1])) if len(cells) == 3 else ["pim", "no_memory"]
         known = set().union(*(functions.get(call, set()) for call in calls))
