@@ -1,5 +1,6 @@
 -- What follows of how a call ended, whatever command its words say.
 use Rattle.std.proofs.Common.{◌≡◌, ◌≢◌, ◌⊎◌, ℕ, ◌≤◌, Bool, true, false, List, [], ◌++◌, Option, Some, None, Result, Ok, Err, inl, inr, refl, sym, ap, ◌∙◌, subst}
+use Rattle.std.specs.Prelude.{OnOk}
 use Rattle.pim_io.specs.Outside.{Rose, Told}
 use Rattle.pim_io.specs.declared.limits.TheConstants.{MAX_INPUT, MAX_PROGRAM}
 use Rattle.pim_words.specs.Reading.{command_said, is_usage}
@@ -226,3 +227,8 @@ call-memory words seen result h c said rows e = elim h [
   | inl refused ↦ (refused.idle.input, refused.idle.output)
   | inr obeyed ↦ obeyed-memory words seen result c rows e (subst (λ (d : Command). Ends d seen result) (some_of obeyed.command c (sym obeyed.said ∙ said)) obeyed.ends)
 ]
+
+-- what holds where all was done
+pub done-only : (result : Result_of) (P : Type 0) → OnOk result P → answer_status result ≡ status.Done → P
+done-only (Ok y) P h e = h
+done-only (Err r) P h e = absurd (refusal-done r e)

@@ -70,17 +70,17 @@ aiger_text (aiger.Net fault names) = net_text fault names
 aiger_text (aiger.TooLarge kind) = large (kind_word kind)
 aiger_text aiger.NoMemory = wanting
 
--- what is wrong in a line of a BLIF file
-abbrev pub blif_line : ℕ → List ℕ → List ℕ
-blif_line line text = bad (codes "blif line " ++ (decimal line ++ text))
+-- what is wrong in a line of a BLIF file, and the name that it has to do with
+abbrev pub blif_line : ℕ → List ℕ → List ℕ → List ℕ
+blif_line line text name = bad (codes "blif line " ++ (decimal line ++ (text ++ name)))
 
 -- why bytes are no BLIF file
 abbrev pub blif_text : BlifFault → List ℕ
-blif_text (blif.Syntax line) = blif_line line (codes ": syntax")
-blif_text (blif.Unsupported line name) = blif_line line (codes ": unsupported " ++ name)
-blif_text (blif.RowWidth line) = blif_line line (codes ": row width")
-blif_text (blif.MixedPhase line) = blif_line line (codes ": mixed phase")
-blif_text (blif.TwiceInput line) = blif_line line (codes ": input twice")
+blif_text (blif.Syntax line) = blif_line line (codes ": syntax") []
+blif_text (blif.Unsupported line name) = blif_line line (codes ": unsupported ") name
+blif_text (blif.RowWidth line) = blif_line line (codes ": row width") []
+blif_text (blif.MixedPhase line) = blif_line line (codes ": mixed phase") []
+blif_text (blif.TwiceInput line) = blif_line line (codes ": input twice") []
 blif_text (blif.Net fault names) = net_text fault names
 blif_text (blif.TooLarge kind) = large (kind_word kind)
 blif_text blif.NoMemory = wanting
@@ -139,9 +139,13 @@ refusal_text (refusal.TooLong origin) = large (codes "bytes")
 refusal_text refusal.WriteFault = codes "write fault"
 refusal_text (refusal.Judged j) = judgement_text j
 
+-- the line with this text
+abbrev pub note_line : List ℕ → List ℕ
+note_line text = codes "pim: " ++ (text ++ codes "\n")
+
 -- the line of a refusal
 abbrev pub refusal_note : Refusal → List ℕ
-refusal_note r = codes "pim: " ++ (refusal_text r ++ codes "\n")
+refusal_note r = note_line (refusal_text r)
 
 -- the line of an answer: none where all was done
 abbrev pub note : {Y : Type 0} → Result Y Refusal → List ℕ

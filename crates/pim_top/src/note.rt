@@ -1,14 +1,251 @@
 //! The one line that a refusal writes to the notes.
+ghost use Rattle.std.specs.Prelude.{◌≡◌, ◌++◌, OnOk, codes, decimal};
 ghost use Rattle.pim_top.specs.Calls.{IsNoted};
-ghost use Rattle.pim_top.specs.Notes.{note};
+ghost use Rattle.pim_top.specs.Notes.{aiger_text, bad, blif_line, blif_text, compiler_text, cycle_labels, file_text, instruction_text, invalid_text, judgement_text, kind_word, label_of, large, net_text, note, origin_word, refusal_text};
 ghost use Rattle.pim_top.specs.Streams.{stream};
+ghost use Rattle.pim_top.specs.inner.Writing.{WroteLine};
 
-use crate::refusal::Refusal;
-use pim_io::{Sink, write_all};
+use crate::judgement::Judgement;
+use crate::netlist::NetlistFault;
+use crate::refusal::{Origin, Refusal};
+use itoa::Buffer;
+use pim_aiger::AigerFault;
+use pim_blif::BlifFault;
+use pim_file::FileFault;
+use pim_io::{Sink, SinkFault, write_all, write_pieces};
+use pim_isa::Invalid;
+use pim_net::{Kind, Names, NetFault};
 
 /// Writes the note of an answer, as far as the sink takes it: none where all was done.
 pub fn tell<E: Sink>(answer: &Result<(), Refusal>, notes: &mut E)
-    ensures { IsNoted (stream E.taken E.faults notes.old notes.new) (note answer.now) }
+    ensures noted { IsNoted (stream E.taken E.faults notes.old notes.new) (note answer.now) }
+    ensures silent { OnOk answer.now (notes.new ≡ notes.old) }
 {
-    let _ = write_all(notes, b"");
+    if let Err(refusal) = answer {
+        let _ = write_refusal(notes, refusal);
+    }
+}
+
+/// Writes the note of a refusal, piece by piece and without memory: `pim: `, the text and a newline. It ends at the first piece
+/// that the sink refuses.
+fn write_refusal<E: Sink>(notes: &mut E, refusal: &Refusal) -> Result<(), SinkFault>
+    ensures { WroteLine E.taken E.faults notes.old notes.new (refusal_text refusal.now) result }
+{
+    match refusal {
+        Refusal::Usage => write_text(notes, b"usage"),
+        Refusal::NoMemory => write_text(notes, b"no memory"),
+        Refusal::ReadFault(origin) => write_two(notes, b"read fault: ", origin_word(*origin)),
+        Refusal::TooLong(_) => write_large(notes, b"bytes"),
+        Refusal::WriteFault => write_text(notes, b"write fault"),
+        Refusal::Judged(judgement) => write_judgement(notes, judgement),
+    }
+}
+
+/// Writes why bytes are refused.
+fn write_judgement<E: Sink>(notes: &mut E, judgement: &Judgement) -> Result<(), SinkFault>
+    ensures { WroteLine E.taken E.faults notes.old notes.new (judgement_text judgement.now) result }
+{
+    match judgement {
+        Judgement::Netlist(NetlistFault::Aiger(fault)) => write_aiger(notes, fault),
+        Judgement::Netlist(NetlistFault::Blif(fault)) => write_blif(notes, fault),
+        Judgement::Compile(refusal) => write_compiler(notes, *refusal),
+        Judgement::File(fault) => write_file(notes, *fault),
+        Judgement::Vector(line) => write_bad_number(notes, b"vector line ", *line),
+        Judgement::TooManyLines => write_large(notes, b"rows"),
+        Judgement::NoMemory => write_text(notes, b"no memory"),
+    }
+}
+
+/// Writes why a netlist is not compiled.
+fn write_compiler<E: Sink>(notes: &mut E, refusal: pim_compile::Refusal) -> Result<(), SinkFault>
+    ensures { WroteLine E.taken E.faults notes.old notes.new (compiler_text refusal) result }
+{
+    match refusal {
+        pim_compile::Refusal::TooFewCells { needed } => {
+            let mut digits = Buffer::new();
+            write_two(notes, b"too few cells: needed ", digits.format(needed).as_bytes())
+        }
+        pim_compile::Refusal::TooLarge => write_large(notes, b"nodes"),
+        pim_compile::Refusal::NoMemory => write_text(notes, b"no memory"),
+    }
+}
+
+/// Writes the fault of an AIGER file with its byte place, or that of its netlist with the signals' labels.
+fn write_aiger<E: Sink>(notes: &mut E, fault: &AigerFault) -> Result<(), SinkFault>
+    ensures { WroteLine E.taken E.faults notes.old notes.new (aiger_text fault.now) result }
+{
+    match fault {
+        AigerFault::Header => write_bad(notes, b"aiger header"),
+        AigerFault::Latches => write_bad(notes, b"aiger latches"),
+        AigerFault::Number(at) => write_bad_number(notes, b"aiger number at byte ", *at),
+        AigerFault::Literal(at) => write_bad_number(notes, b"aiger literal at byte ", *at),
+        AigerFault::Truncated(at) => write_bad_number(notes, b"aiger truncated at byte ", *at),
+        AigerFault::Delta(at) => write_bad_number(notes, b"aiger delta at byte ", *at),
+        AigerFault::Symbol(at) => write_bad_number(notes, b"aiger symbol at byte ", *at),
+        AigerFault::Net(fault, names) => write_net(notes, fault, names),
+        AigerFault::TooLarge(kind) => write_large(notes, kind_word(*kind)),
+        AigerFault::NoMemory => write_text(notes, b"no memory"),
+    }
+}
+
+/// Writes the fault of a BLIF file with its line, or that of its netlist with the signals' labels.
+fn write_blif<E: Sink>(notes: &mut E, fault: &BlifFault) -> Result<(), SinkFault>
+    ensures { WroteLine E.taken E.faults notes.old notes.new (blif_text fault.now) result }
+{
+    match fault {
+        BlifFault::Syntax(line) => write_blif_line(notes, *line, b": syntax", b""),
+        BlifFault::Unsupported(line, name) => write_blif_line(notes, *line, b": unsupported ", name.bytes()),
+        BlifFault::RowWidth(line) => write_blif_line(notes, *line, b": row width", b""),
+        BlifFault::MixedPhase(line) => write_blif_line(notes, *line, b": mixed phase", b""),
+        BlifFault::TwiceInput(line) => write_blif_line(notes, *line, b": input twice", b""),
+        BlifFault::Net(fault, names) => write_net(notes, fault, names),
+        BlifFault::TooLarge(kind) => write_large(notes, kind_word(*kind)),
+        BlifFault::NoMemory => write_text(notes, b"no memory"),
+    }
+}
+
+/// Writes what is wrong in a line of a BLIF file.
+fn write_blif_line<E: Sink>(
+    notes: &mut E,
+    line: u32,
+    text: &[u8],
+    name: &[u8],
+) -> Result<(), SinkFault>
+    ensures { WroteLine E.taken E.faults notes.old notes.new (blif_line line text.now name.now) result }
+{
+    let mut digits = Buffer::new();
+    let pieces = [b"pim: ".as_slice(), b"bad input: ", b"blif line ", digits.format(line).as_bytes(), text, name, b"\n"];
+    write_pieces(notes, &pieces)
+}
+
+/// Writes the fault of a netlist with the labels of its signals.
+fn write_net<E: Sink>(notes: &mut E, fault: &NetFault, names: &Names) -> Result<(), SinkFault>
+    ensures { WroteLine E.taken E.faults notes.old notes.new (net_text fault.now names.now) result }
+{
+    match fault {
+        NetFault::Twice(signal) => write_bad_two(notes, b"driven twice ", label_of(names, *signal)),
+        NetFault::Undriven(signal) => write_bad_two(notes, b"undriven ", label_of(names, *signal)),
+        NetFault::Cycle(signals) => write_cycle(notes, signals.list(), names),
+        NetFault::NoMemory => write_text(notes, b"no memory"),
+    }
+}
+
+/// Writes the fault of a program file with its line, or that of its program.
+fn write_file<E: Sink>(notes: &mut E, fault: FileFault) -> Result<(), SinkFault>
+    ensures { WroteLine E.taken E.faults notes.old notes.new (file_text fault) result }
+{
+    match fault {
+        FileFault::Line(line) => write_bad_number(notes, b"program line ", line),
+        FileFault::Invalid(fault) => write_invalid(notes, fault),
+        FileFault::Truncated => write_bad(notes, b"program truncated"),
+        FileFault::TooLarge => write_large(notes, b"cells"),
+        FileFault::NoMemory => write_text(notes, b"no memory"),
+    }
+}
+
+/// Writes why a program is not valid, with the instruction or the port.
+fn write_invalid<E: Sink>(notes: &mut E, fault: Invalid) -> Result<(), SinkFault>
+    ensures { WroteLine E.taken E.faults notes.old notes.new (invalid_text fault) result }
+{
+    match fault {
+        Invalid::CellRange(k) => write_instruction(notes, k, b" cell range"),
+        Invalid::TargetRead(k) => write_instruction(notes, k, b" reads its target"),
+        Invalid::WrongTarget(k) => write_instruction(notes, k, b" wrong target"),
+        Invalid::InitList(k) => write_instruction(notes, k, b" init list"),
+        Invalid::Port(k) => write_bad_number(notes, b"program port ", k),
+    }
+}
+
+/// Writes what is wrong with an instruction.
+fn write_instruction<E: Sink>(notes: &mut E, number: u32, text: &[u8]) -> Result<(), SinkFault>
+    ensures { WroteLine E.taken E.faults notes.old notes.new (instruction_text number text.now) result }
+{
+    let mut digits = Buffer::new();
+    let pieces = [b"pim: ".as_slice(), b"bad input: ", b"program instruction ", digits.format(number).as_bytes(), text, b"\n"];
+    write_pieces(notes, &pieces)
+}
+
+/// Writes that these signals are a cycle, with their labels.
+fn write_cycle<E: Sink>(notes: &mut E, signals: &[u32], names: &Names) -> Result<(), SinkFault>
+    ensures { WroteLine E.taken E.faults notes.old notes.new (bad (codes "cycle" ++ cycle_labels names.now signals.now)) result }
+{
+    write_all(notes, b"pim: bad input: cycle")?;
+    for signal in signals {
+        write_pieces(notes, &[b" ".as_slice(), label_of(names, *signal)])?;
+    }
+    write_all(notes, b"\n")
+}
+
+/// Writes that the input is bad, and what is wrong.
+fn write_bad<E: Sink>(notes: &mut E, text: &[u8]) -> Result<(), SinkFault>
+    ensures { WroteLine E.taken E.faults notes.old notes.new (bad text.now) result }
+{
+    write_two(notes, b"bad input: ", text)
+}
+
+/// The same, with a number behind it.
+fn write_bad_number<E: Sink>(notes: &mut E, text: &[u8], number: u32) -> Result<(), SinkFault>
+    ensures { WroteLine E.taken E.faults notes.old notes.new (bad (text.now ++ decimal number)) result }
+{
+    let mut digits = Buffer::new();
+    write_bad_two(notes, text, digits.format(number).as_bytes())
+}
+
+/// The same, with a name behind it.
+fn write_bad_two<E: Sink>(notes: &mut E, text: &[u8], name: &[u8]) -> Result<(), SinkFault>
+    ensures { WroteLine E.taken E.faults notes.old notes.new (bad (text.now ++ name.now)) result }
+{
+    write_pieces(notes, &[b"pim: ".as_slice(), b"bad input: ", text, name, b"\n"])
+}
+
+/// Writes that a limit is passed, and the word for it.
+fn write_large<E: Sink>(notes: &mut E, word: &[u8]) -> Result<(), SinkFault>
+    ensures { WroteLine E.taken E.faults notes.old notes.new (large word.now) result }
+{
+    write_two(notes, b"too large: ", word)
+}
+
+/// Writes a text.
+fn write_text<E: Sink>(notes: &mut E, text: &[u8]) -> Result<(), SinkFault>
+    ensures { WroteLine E.taken E.faults notes.old notes.new text.now result }
+{
+    write_pieces(notes, &[b"pim: ".as_slice(), text, b"\n"])
+}
+
+/// Writes two texts, one behind the other.
+fn write_two<E: Sink>(notes: &mut E, first: &[u8], second: &[u8]) -> Result<(), SinkFault>
+    ensures { WroteLine E.taken E.faults notes.old notes.new (first.now ++ second.now) result }
+{
+    write_pieces(notes, &[b"pim: ".as_slice(), first, second, b"\n"])
+}
+
+/// The label of a signal, and nothing where there is none of that number.
+fn label_of(names: &Names, signal: u32) -> &[u8]
+    ensures { result.now ≡ label_of names.now signal }
+{
+    match names.find(signal) {
+        Some(label) => label,
+        None => b"",
+    }
+}
+
+/// The name of a source.
+fn origin_word(origin: Origin) -> &'static [u8]
+    ensures { result.now ≡ origin_word origin }
+{
+    match origin {
+        Origin::Program => b"program",
+        Origin::Input => b"input",
+    }
+}
+
+/// The word for a limit of a netlist.
+fn kind_word(kind: Kind) -> &'static [u8]
+    ensures { result.now ≡ kind_word kind }
+{
+    match kind {
+        Kind::Signals => b"signals",
+        Kind::Outputs => b"outputs",
+        Kind::Name => b"name",
+    }
 }

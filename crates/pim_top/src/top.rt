@@ -1,7 +1,7 @@
 //! The call itself: words in, a status out, and everything that is read and written on the way.
 ghost use Rattle.std.specs.Prelude.{◌≡◌, ◌≢◌, ◌⊎◌, ℕ, List, map, true, false};
 ghost use Rattle.std.specs.String.{string_bytes};
-ghost use Rattle.pim_words.specs.Plain.{IsPlain};
+ghost use Rattle.pim_words.specs.Plain.{IsPlain, IsTaken};
 ghost use Rattle.pim_words.specs.Reading.{IsWithin as HasNumbers, command_said, is_usage};
 ghost use Rattle.pim_words.specs.declared.command.Command.{Command};
 ghost use Rattle.pim_top.specs.Answers.{IsFine};
@@ -114,8 +114,7 @@ fn obey<P: Source, S: Source, K: Sink>(
 ) -> Result<(), Refusal>
     ensures obeys { Obeys (map string_bytes words.now) (seen (stream P.left P.faults program.old program.new)
         (stream S.left S.faults input.old input.new) (stream K.taken K.faults output.old output.new)) result }
-    ensures said { (command : Command) → IsPlain command (map string_bytes words.now)
-        → (command_said (map string_bytes words.now) ≡ Some command) × (is_usage (map string_bytes words.now) ≡ false) }
+    ensures said { (command : Command) → IsPlain command (map string_bytes words.now) → IsTaken command (map string_bytes words.now) }
 {
     match pim_words::read(alloc, words) {
         Ok(command) => execute(alloc, command, program, input, output),

@@ -4,7 +4,6 @@ use Rattle.pim_io.specs.Outside.{Told}
 use Rattle.pim_vectors.specs.Tiles.{IsVector}
 use Rattle.pim_top.specs.inner.Standing.{IsWalk, Stops}
 use Rattle.pim_top.specs.declared.refusal.Refusal.{Refusal}
-use Rattle.pim_top.proofs.WalkSteps.{room-left}
 use Rattle.pim_top.proofs.WalkStates.{after-same, end-told, failed-told, took-told, unfit-told, vector-no, vector-yes}
 use Rattle.pim_top.proofs.walk.take_up.Goals as goal
 
@@ -54,15 +53,3 @@ returns-in-Err-clause-stops g c =
     let new = c.next.follows.lender-at-none in
     let R : Refusal → Type 0 = λ r. Told before now (λ left rest. (bytes front : List ℕ) → IsWalk width bytes left old front → Stops width bytes rest front r) in
     subst R (sym c.of_lines.ensures) (failed-told before now width old new c.in-Err.fault (after-same old before now _ _ new c.in-Err.is c.next.follows.holds-at-none) c.in-Err.ensures.refused)
-
-pub returns-then-not-vector_fits-clause-kinds : goal.returns-then-not-vector_fits-clause-kinds
-returns-then-not-vector_fits-clause-kinds g c = ?
-
-pub returns-in-Ok-None-clause-steady : goal.returns-in-Ok-None-clause-steady
-returns-in-Ok-None-clause-steady g c = ?
-
-pub returns-else-not-vector_fits-clause-steady : goal.returns-else-not-vector_fits-clause-steady
-returns-else-not-vector_fits-clause-steady g c = ?
-
-pub returns-in-Err-clause-kinds : goal.returns-in-Err-clause-kinds
-returns-in-Err-clause-kinds g c = ?
