@@ -1,3 +1,4 @@
+mod Examples
 pub mod JudgedLines
 pub mod NextLine
 pub mod WalkStates
@@ -9,3 +10,4 @@ pub mod RowsEnds
 pub mod CompileFine
 pub mod RunFine
 pub mod Clauses
+pub mod CycleLabels

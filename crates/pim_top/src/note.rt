@@ -1,5 +1,6 @@
 //! The one line that a refusal writes to the notes.
 ghost use Rattle.std.specs.Prelude.{◌≡◌, ◌++◌, OnOk, codes, decimal};
+ghost use Rattle.pim_io.specs.Outside.{Wrote};
 ghost use Rattle.pim_top.specs.Calls.{IsNoted};
 ghost use Rattle.pim_top.specs.Notes.{aiger_text, bad, blif_line, blif_text, compiler_text, cycle_labels, file_text, instruction_text, invalid_text, judgement_text, kind_word, label_of, large, net_text, note, origin_word, refusal_text};
 ghost use Rattle.pim_top.specs.Streams.{stream};
@@ -12,7 +13,7 @@ use itoa::Buffer;
 use pim_aiger::AigerFault;
 use pim_blif::BlifFault;
 use pim_file::FileFault;
-use pim_io::{Sink, SinkFault, write_all, write_pieces};
+use pim_io::{Sink, SinkFault, tell_writes, write_all, write_pieces};
 use pim_isa::Invalid;
 use pim_net::{Kind, Names, NetFault};
 
@@ -62,8 +63,7 @@ fn write_compiler<E: Sink>(notes: &mut E, refusal: pim_compile::Refusal) -> Resu
 {
     match refusal {
         pim_compile::Refusal::TooFewCells { needed } => {
-            let mut digits = Buffer::new();
-            write_two(notes, b"too few cells: needed ", digits.format(needed).as_bytes())
+            write_number(notes, b"too few cells: needed ", needed)
         }
         pim_compile::Refusal::TooLarge => write_large(notes, b"nodes"),
         pim_compile::Refusal::NoMemory => write_text(notes, b"no memory"),
@@ -169,11 +169,21 @@ fn write_instruction<E: Sink>(notes: &mut E, number: u32, text: &[u8]) -> Result
 fn write_cycle<E: Sink>(notes: &mut E, signals: &[u32], names: &Names) -> Result<(), SinkFault>
     ensures { WroteLine E.taken E.faults notes.old notes.new (bad (codes "cycle" ++ cycle_labels names.now signals.now)) result }
 {
-    write_all(notes, b"pim: bad input: cycle")?;
+    tell_writes();
+    write_pieces(notes, &[b"pim: ".as_slice(), b"bad input: ", b"cycle"])?;
+    write_labels(notes, signals, names)?;
+    write_all(notes, b"\n")
+}
+
+/// Writes the labels of signals, each after a space.
+fn write_labels<E: Sink>(notes: &mut E, signals: &[u32], names: &Names) -> Result<(), SinkFault>
+    ensures { Wrote result (E.taken notes.old) (E.taken notes.new) (E.faults notes.old) (E.faults notes.new) (cycle_labels names.now signals.now) }
+{
+    tell_writes();
     for signal in signals {
         write_pieces(notes, &[b" ".as_slice(), label_of(names, *signal)])?;
     }
-    write_all(notes, b"\n")
+    Ok(())
 }
 
 /// Writes that the input is bad, and what is wrong.
@@ -210,6 +220,14 @@ fn write_text<E: Sink>(notes: &mut E, text: &[u8]) -> Result<(), SinkFault>
     ensures { WroteLine E.taken E.faults notes.old notes.new text.now result }
 {
     write_pieces(notes, &[b"pim: ".as_slice(), text, b"\n"])
+}
+
+/// Writes a text with a number behind it.
+fn write_number<E: Sink>(notes: &mut E, text: &[u8], number: u32) -> Result<(), SinkFault>
+    ensures { WroteLine E.taken E.faults notes.old notes.new (text.now ++ decimal number) result }
+{
+    let mut digits = Buffer::new();
+    write_two(notes, text, digits.format(number).as_bytes())
 }
 
 /// Writes two texts, one behind the other.

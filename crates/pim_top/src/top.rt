@@ -99,9 +99,8 @@ pub fn no_memory<E: Sink>(notes: &mut E) -> Status
     ensures status { result ≡ Status.NoMemory }
     ensures noted { IsNoted (stream E.taken E.faults notes.old notes.new) (refusal_note Refusal.NoMemory) }
 {
-    let answer = Err(Refusal::NoMemory);
-    tell(&answer, notes);
-    status_of(&answer)
+    tell(&Err(Refusal::NoMemory), notes);
+    Status::NoMemory
 }
 
 /// Reads the words, and does what their command does.
