@@ -21,8 +21,8 @@ lines-append text [] ys h =
     subst (λ (t : List ℕ). lines_after t ys ≡ last_line t ++ lines ys) (sym h) refl
 lines-append text (b ∷ xs) ys h =
     elim (is_newline b) as (λ v. cond v (last_piece_after [] xs) (last_piece_after (text ++ b ∷ []) xs) ≡ [] →
-        cond v (without_return text ∷ lines_after [] (xs ++ ys)) (lines_after (text ++ b ∷ []) (xs ++ ys))
-        ≡ cond v (without_return text ∷ lines_after [] xs) (lines_after (text ++ b ∷ []) xs) ++ lines ys) [
+    cond v (without_return text ∷ lines_after [] (xs ++ ys)) (lines_after (text ++ b ∷ []) (xs ++ ys))
+    ≡ cond v (without_return text ∷ lines_after [] xs) (lines_after (text ++ b ∷ []) xs) ++ lines ys) [
       | true ↦ λ e. ap (λ (ls : List (List ℕ)). without_return text ∷ ls) (lines-append [] xs ys e)
       | false ↦ λ e. lines-append (text ++ b ∷ []) xs ys e
     ] h
@@ -85,7 +85,7 @@ first-by text b xs rest false e k =
     let f : EndsAt text (b ∷ xs) (suc j) = (
       ap (last_piece_after text) next ∙ ap (λ (v : Bool). cond v (last_piece_after [] (take (j + 1) xs)) (last_piece_after (text ++ b ∷ []) (take (j + 1) xs))) e ∙ w.edge,
       ap (lines_after text) next ∙ ap (λ (v : Bool). cond v (without_return text ∷ lines_after [] (take (j + 1) xs)) (lines_after (text ++ b ∷ []) (take (j + 1) xs))) e ∙ w.line
-      ∙ ap (λ (t : List ℕ). without_return t ∷ []) (append_assoc text (b ∷ []) (take j xs)),
+          ∙ ap (λ (t : List ℕ). without_return t ∷ []) (append_assoc text (b ∷ []) (take j xs)),
     ) in
     let g : EndsAt text (b ∷ xs) (line_len (b ∷ xs)) = subst (EndsAt text (b ∷ xs)) (sym n) f in
     record { edge = g.0; line = g.1 }

@@ -66,18 +66,18 @@ judged-line limit width left small =
       | inl over ↦ (
         lines (settled width (drop (k + 1) piece)),
         judged-front limit width left over
-        ∙ ap (λ (p : List ℕ). lines (settled width p)) (sym whole)
-        ∙ ap lines (settled-append width front (drop (k + 1) piece) f.edge)
-        ∙ lines-append [] front (settled width (drop (k + 1) piece)) f.edge
-        ∙ ap (λ (ls : List (List ℕ)). ls ++ lines (settled width (drop (k + 1) piece))) f.line,
+            ∙ ap (λ (p : List ℕ). lines (settled width p)) (sym whole)
+            ∙ ap lines (settled-append width front (drop (k + 1) piece) f.edge)
+            ∙ lines-append [] front (settled width (drop (k + 1) piece)) f.edge
+            ∙ ap (λ (ls : List (List ℕ)). ls ++ lines (settled width (drop (k + 1) piece))) f.line,
       )
       | inr fits ↦ (
         lines (drop (k + 1) piece),
         judged-all limit width left fits
-        ∙ ap lines (sym (take_all limit left fits))
-        ∙ ap lines (sym whole)
-        ∙ lines-append [] front (drop (k + 1) piece) f.edge
-        ∙ ap (λ (ls : List (List ℕ)). ls ++ lines (drop (k + 1) piece)) f.line,
+            ∙ ap lines (sym (take_all limit left fits))
+            ∙ ap lines (sym whole)
+            ∙ lines-append [] front (drop (k + 1) piece) f.edge
+            ∙ ap (λ (ls : List (List ℕ)). ls ++ lines (drop (k + 1) piece)) f.line,
       )
     ]
 

@@ -61,13 +61,12 @@ rows-done load seen y Q make h =
     of-bytes (Some MAX_PROGRAM) seen.program file (λ file. OfBytes (Some MAX_INPUT) seen.input (λ input. Told seen.output.before seen.output.now (λ before after. Q file input before after))) h.loaded.read
     (told-map seen.input.before seen.input.now (λ bytes rest. RanWhole runner bytes rest seen.output.before seen.output.now) (λ bytes rest. (rest ≡ []) × (length bytes ≤ MAX_INPUT) × Told seen.output.before seen.output.now (λ before after. Q file bytes before after))
     (λ bytes rest w.
-    let text = results runner (rows_of (fitting_lines runner.width bytes)) in
-    (
+    let text = results runner (rows_of (fitting_lines runner.width bytes)) in (
       w.all,
       fine-within runner.width bytes w.fine,
       told-map seen.output.before seen.output.now (λ before after. after ≡ before ++ text) (λ before after. Q file bytes before after)
-      (λ before after e. make file bytes before after text e h.loaded.read.fits (record { runner = runner; loaded = h.loaded.is; is = ran-fine runner bytes w.fine }))
-      w.took,
+          (λ before after e. make file bytes before after text e h.loaded.read.fits (record { runner = runner; loaded = h.loaded.is; is = ran-fine runner bytes w.fine }))
+          w.took,
     ))
     h.walk.ran)
 

@@ -64,6 +64,7 @@ rows-fine fill file bytes answer fine h =
     by : Result Runner Judgement → Runner → Runner
     by (Ok r) s = r
     by (Err j) s = s
+
     same-ok : (r s : Runner) → ok_of r ≡ ok_of s → r ≡ s
     same-ok r s e = ap (λ (x : Result Runner Judgement). by x s) e
 

@@ -52,6 +52,7 @@ judged-split width bytes left front l h =
           | true ↦ whole
           | false ↦ part
         ])
+
     split : (width : ℕ) (front more : List ℕ) → length front ≤ MAX_INPUT → ((last_piece front ≡ []) ⊎ (more ≡ [])) → judged_lines width (front ++ more) ≡ lines front ++ judged_within (MAX_INPUT - length front) width more
     split width front more within (inl edge) = inside width front more within edge
     split width front more within (inr none) =
@@ -98,18 +99,18 @@ refused-many width n behind text more e = (
 refused-vector : (width n : ℕ) (behind : Option Refusal) (text : List ℕ) (more : List (List ℕ)) → eqb n MAX_LINES ≡ false → is_vector width text ≡ false → (first_refusal width n behind (text ∷ more) ≡ Some (refusal.Judged (judgement.Vector (n + 1)))) × (fitting width n (text ∷ more) ≡ [])
 refused-vector width n behind text more e f = (
   ap (λ (b : Bool). cond b (Some (refusal.Judged judgement.TooManyLines)) (cond (is_vector width text) (first_refusal width (n + 1) behind more) (Some (refusal.Judged (judgement.Vector (n + 1)))))) e
-  ∙ ap (λ (b : Bool). cond b (first_refusal width (n + 1) behind more) (Some (refusal.Judged (judgement.Vector (n + 1))))) f,
+      ∙ ap (λ (b : Bool). cond b (first_refusal width (n + 1) behind more) (Some (refusal.Judged (judgement.Vector (n + 1))))) f,
   ap (λ (b : Bool). cond b [] (cond (is_vector width text) (text ∷ fitting width (n + 1) more) [])) e
-  ∙ ap (λ (b : Bool). cond b (text ∷ fitting width (n + 1) more) []) f,
+      ∙ ap (λ (b : Bool). cond b (text ∷ fitting width (n + 1) more) []) f,
 )
 
 -- a vector is passed over
 passed-vector : (width n : ℕ) (behind : Option Refusal) (text : List ℕ) (more : List (List ℕ)) → eqb n MAX_LINES ≡ false → is_vector width text ≡ true → (first_refusal width n behind (text ∷ more) ≡ first_refusal width (n + 1) behind more) × (fitting width n (text ∷ more) ≡ text ∷ fitting width (n + 1) more)
 passed-vector width n behind text more e f = (
   ap (λ (b : Bool). cond b (Some (refusal.Judged judgement.TooManyLines)) (cond (is_vector width text) (first_refusal width (n + 1) behind more) (Some (refusal.Judged (judgement.Vector (n + 1)))))) e
-  ∙ ap (λ (b : Bool). cond b (first_refusal width (n + 1) behind more) (Some (refusal.Judged (judgement.Vector (n + 1))))) f,
+      ∙ ap (λ (b : Bool). cond b (first_refusal width (n + 1) behind more) (Some (refusal.Judged (judgement.Vector (n + 1))))) f,
   ap (λ (b : Bool). cond b [] (cond (is_vector width text) (text ∷ fitting width (n + 1) more) [])) e
-  ∙ ap (λ (b : Bool). cond b (text ∷ fitting width (n + 1) more) []) f,
+      ∙ ap (λ (b : Bool). cond b (text ∷ fitting width (n + 1) more) []) f,
 )
 
 -- what the answer for a line tells of the tests
@@ -201,8 +202,7 @@ no-line width bytes left front l h said = elim (finds-next l (rest_of l left)) [
       let all : bytes ≡ front = h.cut ∙ ap (λ (r : List ℕ). front ++ r) f.none ∙ append-nil front in
       let fits : leb (length bytes) MAX_INPUT ≡ true = le-leb (length bytes) MAX_INPUT (omega (arith, ap length all, h.within)) in
       let judged : judged_within (room l) l.longest (rest_of l left) ≡ [] =
-      ap (judged_within (room l) l.longest) f.none ∙ ap (λ (b : Bool). cond b [] (lines (settled l.longest (take (room l) [])))) (le-leb 0 (room l) (omega arith)) in
-      (
+      ap (judged_within (room l) l.longest) f.none ∙ ap (λ (b : Bool). cond b [] (lines (settled l.longest (take (room l) [])))) (le-leb 0 (room l) (omega arith)) in (
         f.none,
         refusal-here width bytes left front l [] h judged ∙ ap (λ (b : Bool). cond b None (Some (refusal.TooLong origin.Input))) fits,
         fits-here width bytes left front l [] h judged ∙ append-nil (lines front),
@@ -226,14 +226,17 @@ walk-more width bytes left rest front l new line h said fits longest given behin
   where
     take-none : (n : ℕ) → take {A = ℕ} n [] ≡ []
     take-none n = take_all n [] (omega arith)
+
     no-text : (n : ℕ) (left text : List ℕ) → left ≡ [] → lines (take n left) ≡ text ∷ [] → ⊥
     no-text n left text none said =
         let t : take n left ≡ [] = ap (take n) none ∙ take-none n in
         let e : lines (take n left) ≡ [] = ap lines t in
         cc
+
     edge-of : (front left text : List ℕ) → ((last_piece front ≡ []) ⊎ (left ≡ [])) → lines (take (line_len left + 1) left) ≡ text ∷ [] → last_piece front ≡ []
     edge-of front left text (inl edge) said = edge
     edge-of front left text (inr none) said = absurd (no-text (line_len left + 1) left text none said)
+
     by : (f : FindsLine l (rest_of l left)) → eqb l.given MAX_LINES ≡ false → f.text ≡ line → IsLine l (rest_of l left) f.text → last_piece front ≡ [] → (further : List ℕ) × IsWalk width bytes rest new further × (lines further ≡ lines front ++ line ∷ [])
     by f more same w edge =
         let all = rest_of l left in
@@ -243,8 +246,7 @@ walk-more width bytes left rest front l new line h said fits longest given behin
         let cut : piece ++ drop n all ≡ all = take-append-drop n all in
         let sizes = ap length cut in
         let further : lines (front ++ piece) ≡ lines front ++ text ∷ [] = lines-append [] front piece edge ∙ ap (λ (ls : List (List ℕ)). lines front ++ ls) w.line in
-        let unfit : is_vector width text ≡ true = ap (is_vector width) same ∙ fits in
-        (
+        let unfit : is_vector width text ≡ true = ap (is_vector width) same ∙ fits in (
           front ++ piece,
           record {
             longest = longest ∙ h.longest;

@@ -94,7 +94,12 @@ fn write_blif<E: Sink>(notes: &mut E, fault: &BlifFault) -> Result<(), SinkFault
 {
     match fault {
         BlifFault::Syntax(line) => write_blif_line(notes, *line, b": syntax", b""),
-        BlifFault::Unsupported(line, name) => write_blif_line(notes, *line, b": unsupported ", name.bytes()),
+        BlifFault::Unsupported(line, name) => write_blif_line(
+            notes,
+            *line,
+            b": unsupported ",
+            name.bytes(),
+        ),
         BlifFault::RowWidth(line) => write_blif_line(notes, *line, b": row width", b""),
         BlifFault::MixedPhase(line) => write_blif_line(notes, *line, b": mixed phase", b""),
         BlifFault::TwiceInput(line) => write_blif_line(notes, *line, b": input twice", b""),
@@ -114,7 +119,15 @@ fn write_blif_line<E: Sink>(
     ensures { WroteLine E.taken E.faults notes.old notes.new (blif_line line text.now name.now) result }
 {
     let mut digits = Buffer::new();
-    let pieces = [b"pim: ".as_slice(), b"bad input: ", b"blif line ", digits.format(line).as_bytes(), text, name, b"\n"];
+    let pieces = [
+        b"pim: ".as_slice(),
+        b"bad input: ",
+        b"blif line ",
+        digits.format(line).as_bytes(),
+        text,
+        name,
+        b"\n",
+    ];
     write_pieces(notes, &pieces)
 }
 
@@ -161,7 +174,14 @@ fn write_instruction<E: Sink>(notes: &mut E, number: u32, text: &[u8]) -> Result
     ensures { WroteLine E.taken E.faults notes.old notes.new (instruction_text number text.now) result }
 {
     let mut digits = Buffer::new();
-    let pieces = [b"pim: ".as_slice(), b"bad input: ", b"program instruction ", digits.format(number).as_bytes(), text, b"\n"];
+    let pieces = [
+        b"pim: ".as_slice(),
+        b"bad input: ",
+        b"program instruction ",
+        digits.format(number).as_bytes(),
+        text,
+        b"\n",
+    ];
     write_pieces(notes, &pieces)
 }
 
@@ -205,7 +225,10 @@ fn write_bad_number<E: Sink>(notes: &mut E, text: &[u8], number: u32) -> Result<
 fn write_bad_two<E: Sink>(notes: &mut E, text: &[u8], name: &[u8]) -> Result<(), SinkFault>
     ensures { WroteLine E.taken E.faults notes.old notes.new (bad (text.now ++ name.now)) result }
 {
-    write_pieces(notes, &[b"pim: ".as_slice(), b"bad input: ", text, name, b"\n"])
+    write_pieces(
+        notes,
+        &[b"pim: ".as_slice(), b"bad input: ", text, name, b"\n"],
+    )
 }
 
 /// Writes that a limit is passed, and the word for it.

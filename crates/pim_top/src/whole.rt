@@ -57,7 +57,12 @@ pub(crate) fn write_text<C: WholeText, P: Source, S: Source, K: Sink>(
     ensures apart { IsApart (C.command command.now) (seen (stream P.left P.faults program.old program.new)
         (stream S.left S.faults input.old input.new) (stream K.taken K.faults output.old output.new)) }
 {
-    let file = bytes_of(alloc, program, Origin::Program, command.reads(Origin::Program))?;
+    let file = bytes_of(
+        alloc,
+        program,
+        Origin::Program,
+        command.reads(Origin::Program),
+    )?;
     let opened = command.open(alloc, file.as_slice())?;
     let bytes = bytes_of(alloc, input, Origin::Input, command.reads(Origin::Input))?;
     let text = command.text(alloc, &opened, bytes.as_slice())?;

@@ -6,7 +6,6 @@ ghost use Rattle.pim_top.specs.Answers.{IsWanting};
 ghost use Rattle.pim_top.specs.commands.Compile.{CompileAnswers, level_of, target_of};
 
 use crate::judgement::Judgement;
-
 use crate::netlist;
 use crate::refusal::Origin;
 use crate::whole::WholeText;

@@ -6,7 +6,6 @@ ghost use Rattle.pim_top.specs.Streams.{Stream, seen, stream};
 ghost use Rattle.pim_top.specs.commands.Run.{IsProgramRead, fill_of, run_of};
 
 use crate::judgement::Judgement;
-
 use crate::reading::bytes_of;
 use crate::refusal::{Origin, Refusal};
 use crate::walk::walk;
