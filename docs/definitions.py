@@ -27,6 +27,7 @@ SECTIONS = {
     "pim_nor": ("The NOR network", "The gates whose number decides how many cells are needed."),
     "pim_graph": ("Orders", "In which order gates are placed, and how many cells are held at once."),
     "pim_simpler": ("The schedule", "Which gate stands in which cell, and when a cell is used again."),
+    "pim_rm3": ("The PLiM schedules", "Which node stands in which cell, and which RM3 instructions give its value."),
     "pim_isa": ("Programs and the machine", "Instructions, what they do to a row of cells, and which programs are valid."),
     "pim_file": ("The text of a program", "How a program is written, and which bytes are read as one."),
     "pim_vectors": ("Vectors", "The lines of a source, and tiles of rows."),
@@ -54,6 +55,7 @@ How to read them:
 | `A × B`, `A ⊎ B`, `¬ A` | both hold; one holds; it doesn't hold |
 | `(x : A) → B`, `(x : A) × B` | B for every x; there is an x with B |
 | `record R .. where` | as a value, its parts; as a statement, all of these hold |
+| `data D where` | a type by its variants, each with its fields |
 | `≡`, `≢` | is equal, is not equal, as a statement; `==` as a truth value |
 | `ℕ`, `Bool`, `List A`, `Option A`, `Result A E` | natural numbers, truth values, lists, an A or none, an A or a fault |
 | `[]`, `x ∷ xs`, `++` | the empty list; x before the list xs; one list behind another |
@@ -95,6 +97,7 @@ ones are cited by functions alone that no other crate can call.
 
 WORD = re.compile(r"[A-Za-z_][\w'-]*|[^\s\w(){}\[\].,:◌]+")
 START = re.compile(r"(?:(?:pub|abbrev|unfoldable|opaque|record|data|theorem) )+(\S+)(?= |$)")
+DATA = re.compile(r"(?:pub )?data ")
 USE = re.compile(r"(?:pub )?use Rattle\.(pim_[\w.]+?)\.\{(.*)\}$")
 
 
@@ -106,7 +109,11 @@ class Definition:
     lines: list = field(default_factory=list)
 
     def words(self):
-        return set(WORD.findall("\n".join(self.lines)))
+        return list(dict.fromkeys(WORD.findall("\n".join(self.lines))))
+
+    def variants(self):
+        """The variants of a type that is defined by them."""
+        return [match[1] for line in self.lines[1:] if DATA.match(self.lines[0]) and (match := re.match(r"  (\S+) :", line))]
 
 
 @dataclass
@@ -121,6 +128,12 @@ class Spec:
     @property
     def key(self):
         return ".".join([self.crate, "specs", *self.path.with_suffix("").parts[1:]])
+
+    @property
+    def names(self):
+        """The names that the file defines, each with its definition's: a variant's is that of its type."""
+        variants = {name: found.name for found in self.definitions.values() for name in found.variants()}
+        return variants | {name: name for name in self.definitions}
 
     @property
     def is_inner(self):
@@ -149,6 +162,8 @@ def read_spec(crate, path):
         if line.startswith("--"):
             comment.append(line)
             current = None
+        elif not line and (spec.definitions or spec.about):
+            comment = []
         elif start:
             current = Definition(start[1].replace("◌", ""), comment, [line])
             spec.definitions[current.name] = current
@@ -167,10 +182,14 @@ def read_specs():
             spec = read_spec(crate, path)
             if spec.definitions:
                 specs[spec.key] = spec
-    unknown = {spec.crate for spec in specs.values()} - set(SECTIONS)
-    if unknown:
-        sys.exit(f"docs/definitions.py knows no section for {', '.join(sorted(unknown))}")
     return specs
+
+
+def sections(specs):
+    """The sections above, and one for each other crate, which begins with what its first line says."""
+    others = sorted({spec.crate for spec in specs.values()} - set(SECTIONS))
+    lines = [(ROOT / "crates" / crate / "src" / "lib.rt").read_text().split("\n")[0] for crate in others]
+    return SECTIONS | {crate: ("More", line.removeprefix("//! ")) for crate, line in zip(others, lines)}
 
 
 def clause(text, name):
@@ -186,7 +205,9 @@ def clause(text, name):
 def resolve(specs, uses, word):
     """What a word stands for that `uses` has: a definition, as module and name, or a type of the code."""
     module, name = uses.get(word, (None, None))
-    while module in specs and name not in specs[module].definitions:
+    while module in specs:
+        if name in specs[module].names:
+            return module, specs[module].names[name]
         module, name = specs[module].uses.get(name, (None, None))
     return (module, name) if module else None
 
@@ -204,9 +225,8 @@ def reached(specs):
         module, name = found
         if module in specs:
             spec = specs[module]
-            own = {name: (module, name) for name in spec.definitions}
-            words = WORD.findall("\n".join(spec.definitions[name].lines))
-            for word in dict.fromkeys(words):
+            own = {name: (module, name) for name in spec.names}
+            for word in spec.definitions[name].words():
                 meet(resolve(specs, own | spec.uses, word))
 
     for word in dict.fromkeys(WORD.findall(clause(text, name))):
@@ -231,16 +251,16 @@ def declaration(module, name):
 
 def without_marks(lines):
     """A comment as a sentence."""
-    return " ".join(line.removeprefix("--").strip() for line in lines)
+    return " ".join(line.removeprefix("--").strip() for line in lines if not line.startswith("-- --"))
 
 
 def aliases(specs, spec, definitions):
     """The names that these definitions use for a definition of another name."""
-    used = set().union(*(definition.words() for definition in definitions))
+    used = {word for definition in definitions for word in definition.words()}
     for word in sorted(used & set(spec.uses)):
-        found = resolve(specs, spec.uses, word)
-        if found[0] in specs and found[1] != word:
-            yield f"`{word}` is `{found[1]}` of {specs[found[0]].crate}, {specs[found[0]].path}."
+        module, name = spec.uses[word]
+        if module in specs and name != word:
+            yield f"`{word}` is `{name}` of {specs[module].crate}, {specs[module].path}."
 
 
 def plain(line):
@@ -253,7 +273,8 @@ def printed(specs, spec, names):
     definitions = [definition for definition in spec.definitions.values() if definition.name in names]
     lines = [f"**{spec.path}**: {without_marks(spec.about)}", *aliases(specs, spec, definitions), "", "```"]
     for definition in definitions:
-        lines += [*definition.comment, *map(plain, definition.lines), ""]
+        comment = [line for line in definition.comment if not line.startswith("-- --")]
+        lines += [*comment, *map(plain, definition.lines), ""]
     return [*lines[:-1], "```", ""]
 
 
@@ -265,7 +286,7 @@ def first_part(specs, met):
             crate, lines = declaration(module, name)
             types.setdefault(crate, {})["\n".join(lines)] = True
     page = []
-    for crate, (title, about) in SECTIONS.items():
+    for crate, (title, about) in sections(specs).items():
         files = list(dict.fromkeys(module for module, _ in met if module in specs and specs[module].crate == crate))
         if not files and crate not in types:
             continue
@@ -280,7 +301,7 @@ def first_part(specs, met):
 def other_part(specs, met):
     """The index of all other definitions."""
     page = []
-    for crate, (title, _) in SECTIONS.items():
+    for crate, (title, _) in sections(specs).items():
         rows = []
         for spec in sorted(specs.values(), key=lambda spec: (spec.is_inner, spec.key)):
             for definition in spec.definitions.values():

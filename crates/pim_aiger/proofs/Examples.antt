@@ -2,10 +2,11 @@
 use Rattle.std.specs.Prelude.{◌≡◌, ℕ, List, [], ◌∷◌, ◌++◌, Ok, Err, refl, codes}
 use Rattle.pim_net.specs.Netlist.{DraftView}
 use Rattle.pim_net.specs.declared.fault.NetFault.TheVariants.{Undriven}
-use Rattle.pim_net.specs.declared.kind.Kind.TheVariants.{Signals}
+use Rattle.pim_net.specs.declared.kind.Kind.TheVariants.{Signals, Outputs}
 use Rattle.pim_aiger.specs.declared.fault.AigerFault.TheVariants as faults
 use Rattle.pim_aiger.specs.Steps.{many}
-use Rattle.pim_aiger.specs.HeaderLine.{header_at}
+use Rattle.pim_aiger.specs.Numbers.{HeaderView}
+use Rattle.pim_aiger.specs.HeaderLine.{Text, judged, header_at}
 use Rattle.pim_aiger.specs.TextLines.{line_at}
 use Rattle.pim_aiger.specs.Literals.{input_at, output_at, gate_at, constant, and_gate, reference}
 use Rattle.pim_aiger.specs.Deltas.{delta_at, binary_gate_at}
@@ -65,6 +66,19 @@ latches = refl
 far_variable : net_of (line (codes "aag 1048576 0 0 0 0")) ≡ Err (faults.TooLarge Signals)
 unfolding text_net_of text_whole text_parts closing judged_net header_at line_at input_at output_at gate_at many names_at digits number_of
 far_variable = refl
+
+-- the limits, where the other numbers agree: the last variable and the last output, and one more of each
+abbrev header : ℕ → ℕ → HeaderView
+header greatest outputs = record { greatest = greatest; inputs = 0; latches = 0; outputs = outputs; gates = 0 }
+
+within_limits : judged Text (header 1048575 1048576) ≡ Ok (header 1048575 1048576)
+within_limits = refl
+
+many_signals : judged Text (header 1048576 0) ≡ Err (faults.TooLarge Signals)
+many_signals = refl
+
+many_outputs : judged Text (header 0 1048577) ≡ Err (faults.TooLarge Outputs)
+many_outputs = refl
 
 -- 2M + 2 is no literal
 far_literal : net_of (line (codes "aag 1 1 0 1 0") ++ line (codes "2") ++ line (codes "4")) ≡ Err (faults.Literal 16)

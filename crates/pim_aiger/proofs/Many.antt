@@ -1,23 +1,16 @@
 -- Readings one after the other, as a loop makes them.
-use Rattle.std.proofs.Common.{◌≡◌, ℕ, suc, ◌-◌, ◌+◌, ◌≤◌, ◌<◌, List, [], ◌∷◌, ◌++◌, Result, Ok, Err, refl, sym, ap, ◌∙◌, append_assoc, arith}
+use Rattle.std.proofs.Common.{◌≡◌, ℕ, suc, ◌-◌, ◌+◌, ◌≤◌, ◌<◌, List, [], ◌∷◌, ◌++◌, Result, Ok, Err, refl, sym, ap, ◌∙◌, append_assoc, inl, inr, arith}
 use Rattle.std.proofs.lemmas.List.{append-nil}
 use Rattle.pim_aiger.specs.declared.fault.AigerFault.{AigerFault}
 use Rattle.pim_aiger.specs.declared.fault.AigerFault.TheVariants as faults
 use Rattle.pim_aiger.specs.Cursor.{Cursor}
-use Rattle.pim_aiger.specs.Steps.{◌>>=◌, Fails, many, with_front}
+use Rattle.pim_io.specs.Readings.{◌>>=◌, Fails}
+use Rattle.pim_aiger.specs.Steps.{many, with_front}
 
 -- a fault of a reading is the fault of what begins with it
-pub Fails-then : {A B : Type 0} (fault : AigerFault) (reading : Result A AigerFault) (next : A → Result B AigerFault) → Fails fault reading → Fails fault (reading >>= next)
-Fails-then faults.NoMemory reading next h = tt
-Fails-then faults.Header reading next h = ap (λ r. r >>= next) h
-Fails-then faults.Latches reading next h = ap (λ r. r >>= next) h
-Fails-then (faults.Number place) reading next h = ap (λ r. r >>= next) h
-Fails-then (faults.Literal place) reading next h = ap (λ r. r >>= next) h
-Fails-then (faults.Truncated place) reading next h = ap (λ r. r >>= next) h
-Fails-then (faults.Delta place) reading next h = ap (λ r. r >>= next) h
-Fails-then (faults.Symbol place) reading next h = ap (λ r. r >>= next) h
-Fails-then (faults.Net fault names) reading next h = ap (λ r. r >>= next) h
-Fails-then (faults.TooLarge kind) reading next h = ap (λ r. r >>= next) h
+pub Fails-then : {A B : Type 0} (fault : AigerFault) (reading : Result A AigerFault) (next : A → Result B AigerFault) → Fails faults.NoMemory fault reading → Fails faults.NoMemory fault (reading >>= next)
+Fails-then fault reading next (inl memory) = inl memory
+Fails-then fault reading next (inr is) = inr (ap (λ r. r >>= next) is)
 
 regrouped : {X : Type 0} (front : List X) (x : X) (reading : Result (List X × Cursor) AigerFault) → with_front front (reading >>= λ others. Ok (x ∷ others.0, others.1)) ≡ with_front (front ++ x ∷ []) reading
 regrouped front x (Ok others) = ap (λ xs. Ok (xs, others.1)) (sym (append_assoc front (x ∷ []) others.0))
@@ -35,7 +28,7 @@ module _ {X : Type 0} (read : ℕ → Cursor → Result (X × Cursor) AigerFault
       let one : with_front front (many read i (count - i) c) ≡ with_front (front ++ x ∷ []) (many read (i + 1) (count - (i + 1)) after) = rw (k, h) (regrouped front x (many read (i + 1) (count - (i + 1)) after)) in
       sym one ∙ so_far
 
-  pub ends : (fault : AigerFault) → i < count → Fails fault (read i c) → with_front front (many read i (count - i) c) ≡ total → Fails fault total
+  pub ends : (fault : AigerFault) → i < count → Fails faults.NoMemory fault (read i c) → with_front front (many read i (count - i) c) ≡ total → Fails faults.NoMemory fault total
   unfolding many
   ends fault lt h so_far =
       let k : count - i ≡ suc (count - (i + 1)) = omega arith in

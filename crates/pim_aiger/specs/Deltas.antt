@@ -8,7 +8,7 @@ use Rattle.pim_net.specs.declared.parts.Equation.{Equation}
 use Rattle.pim_aiger.specs.declared.fault.AigerFault.{AigerFault}
 use Rattle.pim_aiger.specs.declared.fault.AigerFault.TheVariants as faults
 use Rattle.pim_aiger.specs.Cursor.{Cursor, end_of, further}
-use Rattle.pim_aiger.specs.Steps.{◌>>=◌}
+use Rattle.pim_io.specs.Readings.{◌>>=◌}
 use Rattle.pim_aiger.specs.Literals.{and_gate}
 
 -- what a seven-bit code at a place gives

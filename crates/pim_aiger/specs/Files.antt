@@ -1,6 +1,6 @@
 -- The netlist of an AIGER file: the bytes are a header line, then as many parts as the header says, then symbols. The
 -- first part that breaks a rule gives the fault (AIGER 20071012, "ASCII format" and "Binary format").
-use Rattle.std.specs.Prelude.{◌≡◌, ℕ, ◌+◌, List, [], ◌∷◌, drop, map, Option, Some, None, Result, Ok, Err, if◌then◌else◌}
+use Rattle.std.specs.Prelude.{ℕ, ◌+◌, List, [], ◌∷◌, drop, map, Option, Some, None, Result, Ok, Err, if◌then◌else◌}
 use Rattle.std.specs.List.{range_with_len}
 use Rattle.std.specs.Fmt.{decimal}
 use Rattle.pim_io.specs.Names.{label}
@@ -11,12 +11,11 @@ use Rattle.pim_net.specs.declared.parts.Equation.{Equation}
 use Rattle.pim_net.specs.declared.parts.OutRef.{OutRef}
 use Rattle.pim_aiger.specs.declared.fault.AigerFault.{AigerFault}
 use Rattle.pim_aiger.specs.declared.fault.AigerFault.TheVariants as faults
-use Rattle.pim_aiger.specs.declared.file.Unjudged.{Unjudged}
-use Rattle.pim_aiger.specs.declared.header.Form.TheVariants.{Text, Binary}
-use Rattle.pim_aiger.specs.declared.header.Header.{Header}
+use Rattle.pim_aiger.specs.Numbers.{HeaderView}
 use Rattle.pim_aiger.specs.Cursor.{Cursor}
-use Rattle.pim_aiger.specs.Steps.{◌>>=◌, many, with_front}
-use Rattle.pim_aiger.specs.HeaderLine.{has_tag, header_at}
+use Rattle.pim_io.specs.Readings.{◌>>=◌}
+use Rattle.pim_aiger.specs.Steps.{many, with_front}
+use Rattle.pim_aiger.specs.HeaderLine.{Text, Binary, has_tag, header_at}
 use Rattle.pim_aiger.specs.Literals.{input_at, output_at, gate_at, constant}
 use Rattle.pim_aiger.specs.Deltas.{binary_gate_at}
 use Rattle.pim_aiger.specs.SymbolTable.{NamesView, names_at, all_labels}
@@ -24,6 +23,11 @@ use Rattle.pim_aiger.specs.SymbolTable.{NamesView, names_at, all_labels}
 -- where the header's line goes on behind the tag
 abbrev pub after_tag : List ℕ → Cursor
 after_tag bytes = record { place = 4; rest = drop 4 bytes }
+
+-- a netlist that was read whole, with its greatest variable
+pub record WholeView : Type 0 where
+  pub greatest : ℕ
+  pub draft : DraftView
 
 -- the parts as a netlist: signal v for variable v
 abbrev pub netlist : List ℕ → List OutRef → List Equation → NamesView → DraftView
@@ -35,49 +39,49 @@ netlist inputs outputs equations names = record {
   output_labels = all_labels 111 0 names.outputs;
 }
 
--- the labels of the signals 0 to `most`: variable 7 is called v7
+-- the labels of the signals 0 to `greatest`: variable 7 is called v7
 abbrev pub signal_labels : ℕ → List (List ℕ)
-signal_labels most = map (λ v. label (118 ∷ decimal v)) (range_with_len 0 (most + 1))
+signal_labels greatest = map (λ v. label (118 ∷ decimal v)) (range_with_len 0 (greatest + 1))
 
 -- a netlist that has this fault, or none
 abbrev pub with_fault : ℕ → DraftView → Option NetFault → Result DraftView AigerFault
-with_fault most draft None = Ok draft
-with_fault most draft (Some fault) = Err (faults.Net fault (signal_labels most))
+with_fault greatest draft None = Ok draft
+with_fault greatest draft (Some fault) = Err (faults.Net fault (signal_labels greatest))
 
 -- a netlist that was read whole, where it is well-formed
-unfoldable pub judged_net : Unjudged → Result DraftView AigerFault
-judged_net whole = with_fault whole.most whole.draft (net_fault whole.draft)
+unfoldable pub judged_net : WholeView → Result DraftView AigerFault
+judged_net whole = with_fault whole.greatest whole.draft (net_fault whole.draft)
 
 -- the end of a file: its symbols
-unfoldable pub closing : Header → List ℕ → List OutRef → List Equation → Cursor → Result Unjudged AigerFault
+unfoldable pub closing : HeaderView → List ℕ → List OutRef → List Equation → Cursor → Result WholeView AigerFault
 closing header inputs outputs equations c = do
   names ← names_at header c
-  Ok (record { most = header.most; draft = netlist inputs outputs equations names })
+  Ok (record { greatest = header.greatest; draft = netlist inputs outputs equations names })
 
 -- a file in the ASCII form: a line for each input, each output and each gate
-unfoldable pub text_parts : Header → Cursor → Result Unjudged AigerFault
+unfoldable pub text_parts : HeaderView → Cursor → Result WholeView AigerFault
 text_parts header c = do
-  inputs ← many (λ k. input_at header.most) 0 header.inputs c
-  outputs ← many (λ k. output_at header.most) 0 header.outputs inputs.1
-  equations ← with_front (constant ∷ []) (many (λ k. gate_at header.most) 0 header.gates outputs.1)
+  inputs ← many (λ k. input_at header.greatest) 0 header.inputs c
+  outputs ← many (λ k. output_at header.greatest) 0 header.outputs inputs.1
+  equations ← with_front (constant ∷ []) (many (λ k. gate_at header.greatest) 0 header.gates outputs.1)
   closing header inputs.0 outputs.0 equations.0 equations.1
 
 -- a file in the binary form: the inputs are the variables from 1 on, and the gates are codes
-unfoldable pub binary_parts : Header → Cursor → Result Unjudged AigerFault
+unfoldable pub binary_parts : HeaderView → Cursor → Result WholeView AigerFault
 binary_parts header c = do
-  outputs ← many (λ k. output_at header.most) 0 header.outputs c
+  outputs ← many (λ k. output_at header.greatest) 0 header.outputs c
   equations ← with_front (constant ∷ []) (many (binary_gate_at header.inputs) 0 header.gates outputs.1)
   closing header (range_with_len 1 header.inputs) outputs.0 equations.0 equations.1
 
 -- the whole of a file in the ASCII form
-unfoldable pub text_whole : List ℕ → Result Unjudged AigerFault
+unfoldable pub text_whole : List ℕ → Result WholeView AigerFault
 text_whole bytes =
     if has_tag Text bytes
     then (header_at Text (after_tag bytes) >>= λ header. text_parts header.0 header.1)
     else Err faults.Header
 
 -- the whole of a file in the binary form
-unfoldable pub binary_whole : List ℕ → Result Unjudged AigerFault
+unfoldable pub binary_whole : List ℕ → Result WholeView AigerFault
 binary_whole bytes =
     if has_tag Binary bytes
     then (header_at Binary (after_tag bytes) >>= λ header. binary_parts header.0 header.1)
@@ -94,10 +98,3 @@ binary_net_of bytes = binary_whole bytes >>= judged_net
 -- the netlist of a file in either form, which its tag tells
 abbrev pub net_of : List ℕ → Result DraftView AigerFault
 net_of bytes = if has_tag Binary bytes then binary_net_of bytes else text_net_of bytes
-
--- a draft that has equations alone
-pub record IsGates (draft : DraftView) : Type 0 where
-  pub inputs : draft.inputs ≡ []
-  pub input_labels : draft.input_labels ≡ []
-  pub outputs : draft.outputs ≡ []
-  pub output_labels : draft.output_labels ≡ []

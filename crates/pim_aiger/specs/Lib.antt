@@ -7,3 +7,4 @@ pub mod Numbers
 pub mod Steps
 pub mod SymbolTable
 pub mod TextLines
+pub mod inner

@@ -10,17 +10,17 @@ use Rattle.pim_net.specs.declared.parts.OutRef.{OutRef}
 use Rattle.pim_aiger.specs.declared.fault.AigerFault.{AigerFault}
 use Rattle.pim_aiger.specs.declared.fault.AigerFault.TheVariants as faults
 use Rattle.pim_aiger.specs.Cursor.{Cursor}
-use Rattle.pim_aiger.specs.Steps.{◌>>=◌}
+use Rattle.pim_io.specs.Readings.{◌>>=◌}
 use Rattle.pim_aiger.specs.Numbers.{one_number, three_numbers}
 use Rattle.pim_aiger.specs.TextLines.{line_at}
 
 -- a literal of a variable up to the greatest one
 abbrev pub is_literal : ℕ → ℕ → Bool
-is_literal most literal = nat_le literal (2 * most + 1)
+is_literal greatest literal = nat_le literal (2 * greatest + 1)
 
 -- a literal that an input or a gate may stand for: of a variable from 1 on, and not complemented
 abbrev pub is_plain : ℕ → ℕ → Bool
-is_plain most literal = nat_le 2 literal && (literal % 2 == 0) && is_literal most literal
+is_plain greatest literal = nat_le 2 literal && (literal % 2 == 0) && is_literal greatest literal
 
 -- the signal that a literal reads, and whether it is complemented
 abbrev pub reference : ℕ → OutRef
@@ -43,23 +43,23 @@ constant = record { sig = 0; cover = record { ins = []; rows = []; phase = true 
 
 -- an input line has one literal
 unfoldable pub input_at : ℕ → Cursor → Result (ℕ × Cursor) AigerFault
-input_at most c = do
+input_at greatest c = do
   line ← line_at c
   literal ← ok_or (one_number (words line.0)) (faults.Number c.place)
-  if is_plain most literal then Ok (literal / 2, line.1) else Err (faults.Literal c.place)
+  if is_plain greatest literal then Ok (literal / 2, line.1) else Err (faults.Literal c.place)
 
 -- an output line has one literal
 unfoldable pub output_at : ℕ → Cursor → Result (OutRef × Cursor) AigerFault
-output_at most c = do
+output_at greatest c = do
   line ← line_at c
   literal ← ok_or (one_number (words line.0)) (faults.Number c.place)
-  if is_literal most literal then Ok (reference literal, line.1) else Err (faults.Literal c.place)
+  if is_literal greatest literal then Ok (reference literal, line.1) else Err (faults.Literal c.place)
 
 -- a gate line has the literal of the gate and the two literals that it reads
 unfoldable pub gate_at : ℕ → Cursor → Result (Equation × Cursor) AigerFault
-gate_at most c = do
+gate_at greatest c = do
   line ← line_at c
   literals ← ok_or (three_numbers (words line.0)) (faults.Number c.place)
-  if is_plain most literals.0 && is_literal most literals.1 && is_literal most literals.2
+  if is_plain greatest literals.0 && is_literal greatest literals.1 && is_literal greatest literals.2
       then Ok (and_gate (literals.0 / 2) literals.1 literals.2, line.1)
       else Err (faults.Literal c.place)

@@ -1,11 +1,15 @@
 -- The numbers on the lines of an AIGER file, in decimal and separated by blanks (AIGER 20071012, "ASCII format").
-use Rattle.std.specs.Prelude.{ℕ, zero, suc, ◌==◌, ◌&&◌, List, [], ◌∷◌, Option, Some, None, option_and_then, Bool, true, false, if◌then◌else◌}
+use Rattle.std.specs.Prelude.{ℕ, zero, suc, ◌==◌, ◌&&◌, List, [], ◌∷◌, Option, Some, None, Bool, true, false, if◌then◌else◌}
+use Rattle.pim_io.specs.Options.{◌>>=◌}
 use Rattle.pim_io.specs.Words.{number_of}
-use Rattle.pim_aiger.specs.declared.header.Header.{Header}
 
-infixl 10 ◌>>=◌
-abbrev ◌>>=◌ : {A B : Type 0} → Option A → (A → Option B) → Option B
-o >>= f = option_and_then f o
+-- the numbers of a header: the greatest variable, and how many inputs, latches, outputs and gates follow
+pub record HeaderView : Type 0 where
+  pub greatest : ℕ
+  pub inputs : ℕ
+  pub latches : ℕ
+  pub outputs : ℕ
+  pub gates : ℕ
 
 -- the number on a line of one word
 abbrev pub one_number : List (List ℕ) → Option ℕ
@@ -36,14 +40,14 @@ are_zeros zero (w ∷ words) = false
 are_zeros (suc count) (w ∷ words) = is_zero w && are_zeros count words
 
 -- the numbers M I L O A of a header line, which the four numbers of later versions may follow if they are 0
-abbrev pub header_numbers : List (List ℕ) → Option Header
+abbrev pub header_numbers : List (List ℕ) → Option HeaderView
 header_numbers (a ∷ b ∷ c ∷ d ∷ e ∷ further) = do
-  most ← number_of a
+  greatest ← number_of a
   inputs ← number_of b
   latches ← number_of c
   outputs ← number_of d
   gates ← number_of e
   if are_zeros 4 further
-      then Some (record { most = most; inputs = inputs; latches = latches; outputs = outputs; gates = gates })
+      then Some (record { greatest = greatest; inputs = inputs; latches = latches; outputs = outputs; gates = gates })
       else None
 header_numbers words = None

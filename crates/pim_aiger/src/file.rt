@@ -1,8 +1,12 @@
 ghost use Rattle.std.specs.Prelude.{◌≡◌, ◌<◌, ◌≤◌, ◌⊎◌, length, All, IfOk, IsTrue};
 ghost use Rattle.pim_net.specs.Netlist.{draft_of};
-ghost use Rattle.pim_aiger.specs.Steps.{Gives};
-ghost use Rattle.pim_aiger.specs.HeaderLine.{has_tag, is_aiger, IsWithin};
-ghost use Rattle.pim_aiger.specs.Files.{IsGates, signal_labels, judged_net, closing, text_whole, binary_whole, text_net_of, binary_net_of, net_of};
+ghost use Rattle.pim_io.specs.Readings.{Gives};
+ghost use Rattle.pim_aiger.specs.HeaderLine.{has_tag, is_aiger};
+ghost use Rattle.pim_aiger.specs.Files.{signal_labels, judged_net, closing, text_whole, binary_whole, text_net_of, binary_net_of, net_of};
+ghost use Rattle.pim_aiger.specs.inner.Kept.{IsGates, IsWithin};
+ghost use Rattle.pim_io.specs.declared.limits.TheConstants.{MAX_PROGRAM};
+ghost use Rattle.pim_net.specs.declared.limits.TheConstants.{MAX_SIGNALS};
+ghost use Rattle.pim_aiger.specs.inner.Views.{form_view, header_view, whole_view};
 
 use crate::fault::AigerFault;
 use crate::header::{Form, Header};
@@ -14,22 +18,22 @@ use pim_net::{Draft, Net, NetFault, OutRef};
 use std::alloc::Global;
 
 /// The netlist of a file in the ASCII form, which begins with the four bytes `aag `, or the first fault. Linear in the
-/// bytes.
+/// bytes and in the greatest variable, which is below `MAX_SIGNALS`.
 #[tactic(auto, unfolding(crate::specs::Files::text_net_of))]
 pub fn read_text(alloc: Global, bytes: &[u8]) -> Result<Net, AigerFault>
-    requires { length bytes.now ≤ 536870912 }
-    ensures { Gives draft_of result (text_net_of bytes.now) }
+    requires { length bytes.now ≤ MAX_PROGRAM }
+    ensures { Gives AigerFault.NoMemory draft_of result (text_net_of bytes.now) }
 {
     let whole = text(alloc, bytes)?;
     whole.judged(alloc)
 }
 
 /// The netlist of a file in the binary form, which begins with the four bytes `aig `, or the first fault. Linear in the
-/// bytes and in the number of inputs.
+/// bytes and in the number of inputs, which is below `MAX_SIGNALS`.
 #[tactic(auto, unfolding(crate::specs::Files::binary_net_of))]
 pub fn read_binary(alloc: Global, bytes: &[u8]) -> Result<Net, AigerFault>
-    requires { length bytes.now ≤ 536870912 }
-    ensures { Gives draft_of result (binary_net_of bytes.now) }
+    requires { length bytes.now ≤ MAX_PROGRAM }
+    ensures { Gives AigerFault.NoMemory draft_of result (binary_net_of bytes.now) }
 {
     let whole = binary(alloc, bytes)?;
     whole.judged(alloc)
@@ -37,8 +41,8 @@ pub fn read_binary(alloc: Global, bytes: &[u8]) -> Result<Net, AigerFault>
 
 /// The netlist of a file in either form, which its first four bytes tell, or the first fault.
 pub fn read(alloc: Global, bytes: &[u8]) -> Result<Net, AigerFault>
-    requires { length bytes.now ≤ 536870912 }
-    ensures { Gives draft_of result (net_of bytes.now) }
+    requires { length bytes.now ≤ MAX_PROGRAM }
+    ensures { Gives AigerFault.NoMemory draft_of result (net_of bytes.now) }
 {
     if has_tag(Form::Binary, bytes) {
         read_binary(alloc, bytes)
@@ -56,7 +60,7 @@ pub fn is_aiger(bytes: &[u8]) -> bool
 
 /// Whether bytes begin with the tag of a form.
 fn has_tag(form: Form, bytes: &[u8]) -> bool
-    ensures tag { result ≡ has_tag form bytes.now }
+    ensures tag { result ≡ has_tag (form_view form) bytes.now }
     ensures long { IsTrue result → 4 ≤ length bytes.now }
 {
     match form {
@@ -68,7 +72,7 @@ fn has_tag(form: Form, bytes: &[u8]) -> bool
 /// A netlist that was read whole and is not judged yet, with its greatest variable.
 #[derive(Debug, Drop)]
 pub(crate) struct Unjudged {
-    pub(crate) most: u32,
+    pub(crate) greatest: u32,
     pub(crate) draft: Draft,
 }
 
@@ -76,25 +80,25 @@ impl Unjudged {
     /// The netlist, where it has no fault; in a fault variable 7 is called `v7`.
     #[tactic(auto, unfolding(crate::specs::Files::judged_net))]
     fn judged(self, alloc: Global) -> Result<Net, AigerFault>
-        requires { self.most < 1048576 }
-        ensures { Gives draft_of result (judged_net self) }
+        requires { self.greatest < MAX_SIGNALS }
+        ensures { Gives AigerFault.NoMemory draft_of result (judged_net (whole_view self)) }
     {
         match Net::check(alloc, self.draft) {
             Ok(net) => Ok(net),
-            Err(fault) => Err(named(alloc, self.most, fault)),
+            Err(fault) => Err(named(alloc, self.greatest, fault)),
         }
     }
 }
 
 /// The fault of a netlist of this greatest variable with the labels of its signals, where there is memory for them.
-fn named(alloc: Global, most: u32, fault: NetFault) -> AigerFault
-    requires { most < 1048576 }
-    ensures named { (result ≡ AigerFault.NoMemory) ⊎ (result ≡ AigerFault.Net fault (signal_labels most)) }
+fn named(alloc: Global, greatest: u32, fault: NetFault) -> AigerFault
+    requires { greatest < MAX_SIGNALS }
+    ensures named { (result ≡ AigerFault.NoMemory) ⊎ (result ≡ AigerFault.Net fault (signal_labels greatest)) }
     ensures memory { fault ≡ NetFault.NoMemory → result ≡ AigerFault.NoMemory }
 {
     match fault {
         NetFault::NoMemory => AigerFault::NoMemory,
-        fault => match signal_labels(alloc, most) {
+        fault => match signal_labels(alloc, greatest) {
             Ok(names) => AigerFault::Net(fault, names),
             Err(_) => AigerFault::NoMemory,
         },
@@ -104,9 +108,9 @@ fn named(alloc: Global, most: u32, fault: NetFault) -> AigerFault
 /// The whole of a file in the ASCII form.
 #[tactic(auto, unfolding(crate::specs::Files::text_whole, crate::specs::Files::text_parts))]
 fn text(alloc: Global, bytes: &[u8]) -> Result<Unjudged, AigerFault>
-    requires { length bytes.now ≤ 536870912 }
-    ensures exact { Gives (λ whole. whole) result (text_whole bytes.now) }
-    ensures below { IfOk result (λ whole. whole.most < 1048576) }
+    requires { length bytes.now ≤ MAX_PROGRAM }
+    ensures exact { Gives AigerFault.NoMemory whole_view result (text_whole bytes.now) }
+    ensures below { IfOk result (λ whole. whole.greatest < MAX_SIGNALS) }
 {
     if !has_tag(Form::Text, bytes) {
         return Err(AigerFault::Header);
@@ -122,9 +126,9 @@ fn text(alloc: Global, bytes: &[u8]) -> Result<Unjudged, AigerFault>
 /// The whole of a file in the binary form.
 #[tactic(auto, unfolding(crate::specs::Files::binary_whole, crate::specs::Files::binary_parts))]
 fn binary(alloc: Global, bytes: &[u8]) -> Result<Unjudged, AigerFault>
-    requires { length bytes.now ≤ 536870912 }
-    ensures exact { Gives (λ whole. whole) result (binary_whole bytes.now) }
-    ensures below { IfOk result (λ whole. whole.most < 1048576) }
+    requires { length bytes.now ≤ MAX_PROGRAM }
+    ensures exact { Gives AigerFault.NoMemory whole_view result (binary_whole bytes.now) }
+    ensures below { IfOk result (λ whole. whole.greatest < MAX_SIGNALS) }
 {
     if !has_tag(Form::Binary, bytes) {
         return Err(AigerFault::Header);
@@ -147,21 +151,21 @@ fn closed(
     outputs: &[OutRef],
     mut draft: Draft,
 ) -> Result<Unjudged, AigerFault>
-    requires within { IsWithin header.now }
+    requires within { IsWithin (header_view header.now) }
     requires inputs { length inputs.now ≡ header.now.inputs }
-    requires inputs_below { All (λ v. v < 1048576) inputs.now }
+    requires inputs_below { All (λ v. v < MAX_SIGNALS) inputs.now }
     requires outputs { length outputs.now ≡ header.now.outputs }
-    requires outputs_below { All (λ o. o.sig < 1048576) outputs.now }
+    requires outputs_below { All (λ o. o.sig < MAX_SIGNALS) outputs.now }
     requires gates { IsGates draft }
-    ensures exact { Gives (λ whole. whole) result
-        (closing header.now inputs.now outputs.now draft.equations reader.now) }
-    ensures below { IfOk result (λ whole. whole.most < 1048576) }
+    ensures exact { Gives AigerFault.NoMemory whole_view result
+        (closing (header_view header.now) inputs.now outputs.now draft.equations reader.now) }
+    ensures below { IfOk result (λ whole. whole.greatest < MAX_SIGNALS) }
 {
     let names = names_at(alloc, header, reader.place(), reader.rest())?;
     add_inputs(alloc, &mut draft, inputs, names.inputs())?;
     add_outputs(alloc, &mut draft, outputs, names.outputs())?;
     Ok(Unjudged {
-        most: header.most,
+        greatest: header.greatest,
         draft,
     })
 }

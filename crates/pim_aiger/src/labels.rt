@@ -3,6 +3,8 @@ ghost use Rattle.std.specs.Fmt.{decimal};
 ghost use Rattle.pim_io.specs.Names.{label};
 ghost use Rattle.pim_aiger.specs.Files.{signal_labels};
 ghost use Rattle.pim_aiger.specs.SymbolTable.{all_labels};
+ghost use Rattle.pim_io.specs.declared.limits.TheConstants.{MAX_NAME};
+ghost use Rattle.pim_net.specs.declared.limits.TheConstants.{MAX_OUTPUTS, MAX_SIGNALS};
 
 use crate::names::GivenName;
 use pim_io::NoMemory;
@@ -12,7 +14,7 @@ use std::alloc::Global;
 /// A letter and a number: what an input, an output or a signal is called that has no name.
 fn numbered(alloc: Global, letter: u8, k: u32) -> Result<Vec<u8>, NoMemory>
     ensures text { IfOk result (λ text. text.items ≡ letter ∷ decimal k) }
-    ensures short { IfOk result (λ text. length text.items ≤ 4096) }
+    ensures short { IfOk result (λ text. length text.items ≤ MAX_NAME) }
 {
     let digits = format!(in alloc; "{k}")?;
     let mut text = Vec::new(alloc);
@@ -29,8 +31,8 @@ fn add_input(
     k: u32,
     name: &Option<GivenName>,
 ) -> Result<(), NoMemory>
-    requires below { variable < 1048576 }
-    requires room { length draft.old.inputs < 1048576 }
+    requires below { variable < MAX_SIGNALS }
+    requires room { length draft.old.inputs < MAX_SIGNALS }
     ensures { OnOk result (draft.new ≡ record draft.old {
       inputs = draft.old.inputs ++ variable ∷ [];
       input_labels = draft.old.input_labels ++ label (unwrap_or name.now (105 ∷ decimal k)) ∷ [];
@@ -53,8 +55,8 @@ fn add_output(
     k: u32,
     name: &Option<GivenName>,
 ) -> Result<(), NoMemory>
-    requires below { output.sig < 1048576 }
-    requires room { length draft.old.outputs < 1048576 }
+    requires below { output.sig < MAX_SIGNALS }
+    requires room { length draft.old.outputs < MAX_OUTPUTS }
     ensures { OnOk result (draft.new ≡ record draft.old {
       outputs = draft.old.outputs ++ output ∷ [];
       output_labels = draft.old.output_labels ++ label (unwrap_or name.now (111 ∷ decimal k)) ∷ [];
@@ -77,8 +79,8 @@ pub(crate) fn add_inputs(
     names: &[Option<GivenName>],
 ) -> Result<(), NoMemory>
     requires same { length names.now ≡ length inputs.now }
-    requires below { All (λ v. v < 1048576) inputs.now }
-    requires few { length inputs.now ≤ 1048576 }
+    requires below { All (λ v. v < MAX_SIGNALS) inputs.now }
+    requires few { length inputs.now ≤ MAX_SIGNALS }
     requires none { draft.old.inputs ≡ [] }
     requires unlabelled { draft.old.input_labels ≡ [] }
     ensures { OnOk result (draft.new ≡ record draft.old {
@@ -100,8 +102,8 @@ pub(crate) fn add_outputs(
     names: &[Option<GivenName>],
 ) -> Result<(), NoMemory>
     requires same { length names.now ≡ length outputs.now }
-    requires below { All (λ o. o.sig < 1048576) outputs.now }
-    requires few { length outputs.now ≤ 1048576 }
+    requires below { All (λ o. o.sig < MAX_SIGNALS) outputs.now }
+    requires few { length outputs.now ≤ MAX_OUTPUTS }
     requires none { draft.old.outputs ≡ [] }
     requires unlabelled { draft.old.output_labels ≡ [] }
     ensures { OnOk result (draft.new ≡ record draft.old {
@@ -115,13 +117,13 @@ pub(crate) fn add_outputs(
     Ok(())
 }
 
-/// The labels of the signals 0 to `most`, which are called by the letter `v` and their variables.
-pub(crate) fn signal_labels(alloc: Global, most: u32) -> Result<Names, NoMemory>
-    requires { most < 1048576 }
-    ensures { IfOk result (λ names. names ≡ signal_labels most) }
+/// The labels of the signals 0 to `greatest`, which are called by the letter `v` and their variables.
+pub(crate) fn signal_labels(alloc: Global, greatest: u32) -> Result<Names, NoMemory>
+    requires { greatest < MAX_SIGNALS }
+    ensures { IfOk result (λ names. names ≡ signal_labels greatest) }
 {
     let mut names = Names::new(alloc);
-    for v in 0..most + 1 {
+    for v in 0..greatest + 1 {
         let name = numbered(alloc, b'v', v)?;
         names.push(&name)?;
     }

@@ -1,6 +1,9 @@
 ghost use Rattle.std.specs.Prelude.{◌≡◌, ◌+◌, ◌<◌, ◌≤◌, length, replicate, None, OnOk, IfOk};
-ghost use Rattle.pim_aiger.specs.Steps.{Gives};
-ghost use Rattle.pim_aiger.specs.SymbolTable.{symbol_of, allowed, with_symbol, no_names, names_at, IsSized};
+ghost use Rattle.pim_io.specs.Readings.{Gives};
+ghost use Rattle.pim_aiger.specs.SymbolTable.{symbol_of, allowed, no_names, names_at};
+ghost use Rattle.pim_aiger.specs.inner.Kept.{with_symbol, IsSized};
+ghost use Rattle.pim_io.specs.declared.limits.TheConstants.{MAX_PROGRAM};
+ghost use Rattle.pim_aiger.specs.inner.Views.{header_view};
 
 use crate::fault::AigerFault;
 use crate::header::Header;
@@ -11,7 +14,7 @@ use pim_net::Kind;
 use std::alloc::Global;
 use std::marker::Model;
 
-/// A name of 1 to 4,096 bytes, as it stands in the file.
+/// A name of 1 to `MAX_NAME` bytes, as it stands in the file.
 #[derive(Debug, Drop)]
 pub(crate) struct GivenName<'a> {
     bytes: &'a [u8],
@@ -19,12 +22,13 @@ pub(crate) struct GivenName<'a> {
 
 impl<'a> Model for GivenName<'a> {
     ghost use Rattle.std.specs.Prelude.{ℕ, ◌<◌, ◌≤◌, List, length};
+    ghost use Rattle.pim_io.specs.declared.limits.TheConstants.{MAX_NAME};
 
     ghost Value = { List ℕ };
 
     ghost view = { λ n. n.bytes.now };
 
-    ghost invariant = { λ n. (0 < length n.bytes.now) × (length n.bytes.now ≤ 4096) };
+    ghost invariant = { λ n. (0 < length n.bytes.now) × (length n.bytes.now ≤ MAX_NAME) };
 }
 
 impl<'a> GivenName<'a> {
@@ -32,7 +36,7 @@ impl<'a> GivenName<'a> {
     pub(crate) fn bytes(&self) -> &'a [u8]
         ensures value { result.now ≡ self.now }
         ensures some { 0 < length self.now }
-        ensures short { length self.now ≤ 4096 }
+        ensures short { length self.now ≤ MAX_NAME }
     {
         self.bytes
     }
@@ -56,7 +60,7 @@ impl<'a> Model for GivenNames<'a> {
 impl<'a> GivenNames<'a> {
     /// No names, for as many inputs and outputs as a header tells.
     fn new(alloc: Global, header: &Header) -> Result<GivenNames<'a>, NoMemory>
-        ensures { IfOk result (λ names. names ≡ no_names header.now) }
+        ensures { IfOk result (λ names. names ≡ no_names (header_view header.now)) }
     {
         Ok(GivenNames {
             inputs: no_names(alloc, header.inputs)?,
@@ -80,10 +84,10 @@ impl<'a> GivenNames<'a> {
 
     /// Takes the symbol of a line, which begins at `place`.
     fn add(&mut self, header: &Header, place: u32, text: &'a [u8]) -> Result<(), AigerFault>
-        requires sized { IsSized header.now self.old }
-        ensures exact { Gives (λ _. self.new) result
-            (with_symbol self.old (allowed header.now place (symbol_of text.now))) }
-        ensures sized { OnOk result (IsSized header.now self.new) }
+        requires sized { IsSized (header_view header.now) self.old }
+        ensures exact { Gives AigerFault.NoMemory (λ _. self.new) result
+            (with_symbol self.old (allowed (header_view header.now) place (symbol_of text.now))) }
+        ensures sized { OnOk result (IsSized (header_view header.now) self.new) }
     {
         let Some(symbol) = symbol_of(text) else {
             return Err(AigerFault::Symbol(place));
@@ -123,9 +127,9 @@ pub(crate) fn names_at<'a>(
     place: u32,
     bytes: &'a [u8],
 ) -> Result<GivenNames<'a>, AigerFault>
-    requires { place + length bytes.now ≤ 536870912 }
-    ensures exact { Gives (λ names. names) result (names_at header.now (record { place = place; rest = bytes.now })) }
-    ensures sized { IfOk result (IsSized header.now) }
+    requires { place + length bytes.now ≤ MAX_PROGRAM }
+    ensures exact { Gives AigerFault.NoMemory (λ names. names) result (names_at (header_view header.now) (record { place = place; rest = bytes.now })) }
+    ensures sized { IfOk result (IsSized (header_view header.now)) }
 {
     let mut names = GivenNames::new(alloc, header)?;
     let mut scan = Scan::new(bytes);

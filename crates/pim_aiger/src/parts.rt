@@ -1,10 +1,12 @@
 ghost use Rattle.std.specs.Prelude.{◌≡◌, ◌<◌, ◌∷◌, [], length, All, IfOk};
 ghost use Rattle.std.specs.List.{range_with_len};
-ghost use Rattle.pim_aiger.specs.Steps.{Gives, many, with_front};
-ghost use Rattle.pim_aiger.specs.HeaderLine.{IsWithin};
+ghost use Rattle.pim_io.specs.Readings.{Gives};
+ghost use Rattle.pim_aiger.specs.Steps.{many, with_front};
 ghost use Rattle.pim_aiger.specs.Literals.{input_at, output_at, gate_at, constant};
 ghost use Rattle.pim_aiger.specs.Deltas.{binary_gate_at};
-ghost use Rattle.pim_aiger.specs.Files.{IsGates};
+ghost use Rattle.pim_aiger.specs.inner.Kept.{IsGates, IsWithin};
+ghost use Rattle.pim_net.specs.declared.limits.TheConstants.{MAX_SIGNALS};
+ghost use Rattle.pim_aiger.specs.inner.Views.{header_view};
 
 use crate::fault::AigerFault;
 use crate::header::Header;
@@ -19,15 +21,15 @@ pub(crate) fn inputs(
     reader: &mut Reader,
     header: &Header,
 ) -> Result<Vec<u32>, AigerFault>
-    requires { IsWithin header.now }
-    ensures exact { Gives (λ inputs. (inputs.items, reader.new)) result
-        (many (λ k. input_at header.now.most) 0 header.now.inputs reader.old) }
-    ensures below { IfOk result (λ inputs. All (λ v. v < 1048576) inputs.items) }
+    requires { IsWithin (header_view header.now) }
+    ensures exact { Gives AigerFault.NoMemory (λ inputs. (inputs.items, reader.new)) result
+        (many (λ k. input_at header.now.greatest) 0 header.now.inputs reader.old) }
+    ensures below { IfOk result (λ inputs. All (λ v. v < MAX_SIGNALS) inputs.items) }
     ensures count { IfOk result (λ inputs. length inputs.items ≡ header.now.inputs) }
 {
     let mut inputs = Vec::new(alloc);
     for _ in 0..header.inputs {
-        let input = reader.input(header.most)?;
+        let input = reader.input(header.greatest)?;
         inputs.push(input)?;
     }
     Ok(inputs)
@@ -39,15 +41,15 @@ pub(crate) fn outputs(
     reader: &mut Reader,
     header: &Header,
 ) -> Result<Vec<OutRef>, AigerFault>
-    requires { IsWithin header.now }
-    ensures exact { Gives (λ outputs. (outputs.items, reader.new)) result
-        (many (λ k. output_at header.now.most) 0 header.now.outputs reader.old) }
-    ensures below { IfOk result (λ outputs. All (λ o. o.sig < 1048576) outputs.items) }
+    requires { IsWithin (header_view header.now) }
+    ensures exact { Gives AigerFault.NoMemory (λ outputs. (outputs.items, reader.new)) result
+        (many (λ k. output_at header.now.greatest) 0 header.now.outputs reader.old) }
+    ensures below { IfOk result (λ outputs. All (λ o. o.sig < MAX_SIGNALS) outputs.items) }
     ensures count { IfOk result (λ outputs. length outputs.items ≡ header.now.outputs) }
 {
     let mut outputs = Vec::new(alloc);
     for _ in 0..header.outputs {
-        let output = reader.output(header.most)?;
+        let output = reader.output(header.greatest)?;
         outputs.push(output)?;
     }
     Ok(outputs)
@@ -70,14 +72,14 @@ pub(crate) fn gates(
     reader: &mut Reader,
     header: &Header,
 ) -> Result<Draft, AigerFault>
-    requires { IsWithin header.now }
-    ensures exact { Gives (λ draft. (draft.equations, reader.new)) result
-        (with_front (constant ∷ []) (many (λ k. gate_at header.now.most) 0 header.now.gates reader.old)) }
+    requires { IsWithin (header_view header.now) }
+    ensures exact { Gives AigerFault.NoMemory (λ draft. (draft.equations, reader.new)) result
+        (with_front (constant ∷ []) (many (λ k. gate_at header.now.greatest) 0 header.now.gates reader.old)) }
     ensures gates { IfOk result IsGates }
 {
     let mut draft = constant(alloc)?;
     for _ in 0..header.gates {
-        let gate = reader.gate(alloc, header.most)?;
+        let gate = reader.gate(alloc, header.greatest)?;
         draft.add_cover(gate.sig, gate.cover)?;
     }
     Ok(draft)
@@ -89,8 +91,8 @@ pub(crate) fn binary_gates(
     reader: &mut Reader,
     header: &Header,
 ) -> Result<Draft, AigerFault>
-    requires { IsWithin header.now }
-    ensures exact { Gives (λ draft. (draft.equations, reader.new)) result
+    requires { IsWithin (header_view header.now) }
+    ensures exact { Gives AigerFault.NoMemory (λ draft. (draft.equations, reader.new)) result
         (with_front (constant ∷ []) (many (binary_gate_at header.now.inputs) 0 header.now.gates reader.old)) }
     ensures gates { IfOk result IsGates }
 {
@@ -104,9 +106,9 @@ pub(crate) fn binary_gates(
 
 /// The variables from 1 on, as many as `count`.
 pub(crate) fn variables(alloc: Global, count: u32) -> Result<Vec<u32>, NoMemory>
-    requires { count < 1048576 }
+    requires { count < MAX_SIGNALS }
     ensures range { IfOk result (λ variables. variables.items ≡ range_with_len 1 count) }
-    ensures below { IfOk result (λ variables. All (λ v. v < 1048576) variables.items) }
+    ensures below { IfOk result (λ variables. All (λ v. v < MAX_SIGNALS) variables.items) }
     ensures count { IfOk result (λ variables. length variables.items ≡ count) }
 {
     let mut variables = Vec::new(alloc);

@@ -1,7 +1,8 @@
 ghost use Rattle.std.specs.Prelude.{◌≡◌, ◌+◌, ◌≤◌, length, drop};
 ghost use Rattle.pim_aiger.specs.Cursor.{Cursor, end_of, further};
-ghost use Rattle.pim_aiger.specs.Steps.{Gives};
+ghost use Rattle.pim_io.specs.Readings.{Gives};
 ghost use Rattle.pim_aiger.specs.TextLines.{line_at};
+ghost use Rattle.pim_io.specs.declared.limits.TheConstants.{MAX_PROGRAM};
 
 use crate::fault::AigerFault;
 use pim_io::{Scan, without_return};
@@ -19,20 +20,21 @@ pub(crate) struct Reader<'a> {
 
 impl<'a> Model for Reader<'a> {
     ghost use Rattle.std.specs.Prelude.{◌+◌, ◌≤◌, length};
+    ghost use Rattle.pim_io.specs.declared.limits.TheConstants.{MAX_PROGRAM};
     ghost use Rattle.pim_aiger.specs.Cursor.{Cursor};
 
     ghost Value = { Cursor };
 
     ghost view = { λ r. record { place = r.place; rest = r.rest.now } };
 
-    ghost invariant = { λ r. r.place + length r.rest.now ≤ 536870912 };
+    ghost invariant = { λ r. r.place + length r.rest.now ≤ MAX_PROGRAM };
 }
 
 impl<'a> Reader<'a> {
     /// A reading that stands behind the first `place` bytes of a file.
     pub(crate) fn new(bytes: &'a [u8], place: u32) -> Reader<'a>
         requires within { place ≤ length bytes.now }
-        requires short { length bytes.now ≤ 536870912 }
+        requires short { length bytes.now ≤ MAX_PROGRAM }
         ensures { result ≡ record { place = place; rest = drop place bytes.now } }
     {
         Reader {
@@ -51,7 +53,7 @@ impl<'a> Reader<'a> {
     /// The place of the first byte that is left.
     pub(crate) fn place(&self) -> u32
         ensures place { result ≡ self.now.place }
-        ensures short { result + length self.now.rest ≤ 536870912 }
+        ensures short { result + length self.now.rest ≤ MAX_PROGRAM }
     {
         self.place
     }
@@ -75,7 +77,7 @@ impl<'a> Reader<'a> {
     /// The text of the next line, which has to end in a newline; a carriage return before it is dropped.
     #[tactic(auto, using(crate::proofs::FirstLine::first_line_fits), unfolding(crate::specs::TextLines::line_at))]
     pub(crate) fn line(&mut self) -> Result<&'a [u8], AigerFault>
-        ensures { Gives (λ text. (text.now, self.new)) result (line_at self.old) }
+        ensures { Gives AigerFault.NoMemory (λ text. (text.now, self.new)) result (line_at self.old) }
     {
         let mut scan = Scan::new(self.rest);
         match scan.line() {

@@ -1,6 +1,7 @@
 ghost use Rattle.std.specs.Prelude.{◌≡◌, ◌==◌, ◌<◌, length, option_map, IfSome};
 ghost use Rattle.std.specs.List.{position};
-ghost use Rattle.pim_aiger.specs.SymbolTable.{count_of, symbol_of, with_space, symbol_view};
+ghost use Rattle.pim_aiger.specs.SymbolTable.{count_of, symbol_of, with_space};
+ghost use Rattle.pim_aiger.specs.inner.Views.{header_view, port_view, symbol_view};
 
 use crate::header::Header;
 use pim_io::{first_space, number};
@@ -15,7 +16,7 @@ pub(crate) enum Port {
 impl Port {
     /// How many ports of this kind a header tells.
     pub(crate) fn count(self, header: &Header) -> u32
-        ensures { result ≡ count_of header.now self }
+        ensures { result ≡ count_of (header_view header.now) (port_view self) }
     {
         match self {
             Port::Input => header.inputs,
@@ -46,7 +47,7 @@ pub(crate) fn symbol_of(text: &[u8]) -> Option<Symbol<'_>>
 
 /// The symbol of a port whose position and name are told by a text.
 fn positioned(port: Port, text: &[u8]) -> Option<Symbol<'_>>
-    ensures spelled { option_map symbol_view result ≡ with_space port text.now (position (λ b. b == 32) text.now) }
+    ensures spelled { option_map symbol_view result ≡ with_space (port_view port) text.now (position (λ b. b == 32) text.now) }
     ensures named { IfSome result (λ symbol. 0 < length symbol.name.now) }
 {
     let space = first_space(text)?;

@@ -1,6 +1,7 @@
-ghost use Rattle.std.specs.Prelude.{◌≡◌};
+ghost use Rattle.std.specs.Prelude.{◌≡◌, option_map};
 ghost use Rattle.pim_io.specs.Words.{words};
 ghost use Rattle.pim_aiger.specs.Numbers.{one_number, three_numbers, are_zeros, header_numbers};
+ghost use Rattle.pim_aiger.specs.inner.Views.{header_view};
 
 use crate::header::Header;
 use pim_io::{Words, number};
@@ -33,16 +34,16 @@ pub(crate) fn three_numbers(text: &[u8]) -> Option<(u32, u32, u32)>
 
 /// The numbers of a header line, without its tag: M I L O A, and at most four further numbers, which are 0.
 pub(crate) fn header_numbers(text: &[u8]) -> Option<Header>
-    ensures { result ≡ header_numbers (words text.now) }
+    ensures { option_map header_view result ≡ header_numbers (words text.now) }
 {
     let mut words = Words::new(text);
-    let most = words.word()?;
+    let greatest = words.word()?;
     let inputs = words.word()?;
     let latches = words.word()?;
     let outputs = words.word()?;
     let gates = words.word()?;
     let header = Header {
-        most: number(most)?,
+        greatest: number(greatest)?,
         inputs: number(inputs)?,
         latches: number(latches)?,
         outputs: number(outputs)?,

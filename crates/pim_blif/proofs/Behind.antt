@@ -10,19 +10,17 @@ use Rattle.pim_io.specs.Names.{label}
 use Rattle.pim_net.specs.Netlist.{DraftView}
 use Rattle.pim_net.specs.declared.cover.Bit3.{Bit3}
 use Rattle.pim_net.specs.declared.parts.Equation.{Equation}
-use Rattle.pim_blif.specs.declared.directive.Directive.{Directive}
-use Rattle.pim_blif.specs.declared.directive.Directive.TheVariants.{Model, Inputs, Outputs, Names, End, PassedOver, Unsupported}
 use Rattle.pim_blif.specs.declared.fault.BlifFault.{BlifFault}
 use Rattle.pim_blif.specs.declared.fault.BlifFault.TheVariants as faults
-use Rattle.pim_blif.specs.Signals.{number_of, with_name, with_names}
+use Rattle.pim_blif.specs.Signals.{signal_number, with_name, with_names}
 use Rattle.pim_blif.specs.Rows.{RowView, cells_of, pattern_of, output_of, value_of, is_mixed, is_cell, row_words, row_at}
-use Rattle.pim_blif.specs.Covers.{CoverText, cover_text, with_row_text, is_one, phase_of, cover_of, equation_of, open_behind, ended_behind}
+use Rattle.pim_blif.specs.Covers.{CoverText, cover_text, with_row_text, is_one, phase_of, cover_of, equation_of, open_behind}
 use Rattle.pim_blif.specs.Netlists.{draft_with, output_ref, as_inputs, as_outputs, as_signals}
-use Rattle.pim_blif.specs.Judging.{Known, with_input, with_output, each, numbered, empty_cover, with_cover, first_value, with_row, with_row_at, row_of, without_cover, allowed, known_behind}
-use Rattle.pim_blif.specs.Directives.{arguments, first_word, is_end}
+use Rattle.pim_blif.specs.inner.Judging.{Known, with_input, with_output, each, numbered, empty_cover, with_cover, first_value, with_row, with_row_at, row_of, without_cover, allowed, known_behind, ended_behind}
+use Rattle.pim_blif.specs.Directives.{Directive, Model, Inputs, Outputs, Names, End, PassedOver, Unsupported, arguments, first_word, is_end}
 use Rattle.pim_blif.specs.Statements.{Statement}
 use Rattle.pim_blif.specs.StatementFaults.{unsupported}
-use Rattle.pim_blif.specs.Steps.{◌>>=◌}
+use Rattle.pim_io.specs.Readings.{◌>>=◌}
 use Rattle.pim_blif.proofs.Growing.{all_named, named_append, grows_names}
 use Rattle.pim_blif.proofs.Knowing.{drafted, made, IsWhole, whole_ended, whole_grown, whole_same, same_draft, made_ended, made_same, inputs_taken, outputs_taken, numbered_is, named_take, named_at, empty_is}
 
@@ -79,18 +77,18 @@ phase_is (row ∷ rows) words ins e =
 -- a cover with one more row
 row_taken : (line : ℕ) (names : List (List ℕ)) (c : CoverText) (words : List (List ℕ)) (e : Equation) → with_row_at line (equation_of names c) words ≡ Ok e → e ≡ equation_of names (with_row_text words c)
 unfolding with_row_at
-row_taken line names c words e h = by (row_at line (length (map (number_of names) c.columns)) (first_value (cover_of names c)) words) refl h
+row_taken line names c words e h = by (row_at line (length (map (signal_number names) c.columns)) (first_value (cover_of names c)) words) refl h
   where
     filled : List (List Bit3) → Equation
-    filled rows = record { sig = number_of names c.driven; cover = record { ins = map (number_of names) c.columns; rows = rows; phase = phase_of (c.rows ++ words ∷ []) } }
+    filled rows = record { sig = signal_number names c.driven; cover = record { ins = map (signal_number names) c.columns; rows = rows; phase = phase_of (c.rows ++ words ∷ []) } }
 
-    by : (r : Result RowView BlifFault) → row_at line (length (map (number_of names) c.columns)) (first_value (cover_of names c)) words ≡ r → (r >>= λ row. Ok (with_row (equation_of names c) row)) ≡ Ok e → e ≡ equation_of names (with_row_text words c)
+    by : (r : Result RowView BlifFault) → row_at line (length (map (signal_number names) c.columns)) (first_value (cover_of names c)) words ≡ r → (r >>= λ row. Ok (with_row (equation_of names c) row)) ≡ Ok e → e ≡ equation_of names (with_row_text words c)
     by (Err fault) i h = absurd cc
     by (Ok row) i h =
-        let is = row_is line (length (map (number_of names) c.columns)) (first_value (cover_of names c)) words row i in
+        let is = row_is line (length (map (signal_number names) c.columns)) (first_value (cover_of names c)) words row i in
         let same : e ≡ with_row (equation_of names c) row = cc in
         same ∙ (ap (with_row (equation_of names c)) is.0
-        ∙ (ap (λ v. with_row (equation_of names c) (record { cells = cells_of (pattern_of words); value = v })) (phase_is c.rows words (map (number_of names) c.columns) is.1)
+        ∙ (ap (λ v. with_row (equation_of names c) (record { cells = cells_of (pattern_of words); value = v })) (phase_is c.rows words (map (signal_number names) c.columns) is.1)
         ∙ ap (λ rows. filled rows) (sym (map-append (λ words. cells_of (pattern_of words)) c.rows (words ∷ [])))))
 
 -- what is known behind a statement, in terms of what came before it
@@ -131,9 +129,9 @@ module _ (next : Known) (names inputs outputs : List (List ℕ)) (covers : List 
       let grows = grows_names names args in
       let still = whole_grown names more inputs outputs covers grows whole in (
         inputs_taken line (made names inputs outputs covers None true ended) next args e
-            ∙ (ap (λ (d : DraftView). known_by more (record d { inputs = d.inputs ++ map (number_of more) args; input_labels = d.input_labels ++ map label args }) ended) (sym (same_draft names more inputs outputs covers grows whole))
-            ∙ (ap (λ is. known_by more (drafted is (map label inputs ++ map label args) (map (equation_of more) covers) (map (output_ref more) outputs) (map label outputs)) ended) (sym (map-append (number_of more) inputs args))
-            ∙ (ap (λ ls. known_by more (drafted (map (number_of more) (inputs ++ args)) ls (map (equation_of more) covers) (map (output_ref more) outputs) (map label outputs)) ended) (sym (map-append label inputs args))
+            ∙ (ap (λ (d : DraftView). known_by more (record d { inputs = d.inputs ++ map (signal_number more) args; input_labels = d.input_labels ++ map label args }) ended) (sym (same_draft names more inputs outputs covers grows whole))
+            ∙ (ap (λ is. known_by more (drafted is (map label inputs ++ map label args) (map (equation_of more) covers) (map (output_ref more) outputs) (map label outputs)) ended) (sym (map-append (signal_number more) inputs args))
+            ∙ (ap (λ ls. known_by more (drafted (map (signal_number more) (inputs ++ args)) ls (map (equation_of more) covers) (map (output_ref more) outputs) (map label outputs)) ended) (sym (map-append label inputs args))
             ∙ ap (λ os. made more (inputs ++ args) os covers None true ended) (sym (append-nil outputs))))),
         record {
           inputs_in = named_append more inputs args still.inputs_in (all_named names args);
@@ -151,8 +149,8 @@ module _ (next : Known) (names inputs outputs : List (List ℕ)) (covers : List 
       let still = whole_grown names more inputs outputs covers grows whole in (
         outputs_taken (made names inputs outputs covers None true ended) next args e
             ∙ (ap (λ (d : DraftView). known_by more (record d { outputs = d.outputs ++ map (output_ref more) args; output_labels = d.output_labels ++ map label args }) ended) (sym (same_draft names more inputs outputs covers grows whole))
-            ∙ (ap (λ os. known_by more (drafted (map (number_of more) inputs) (map label inputs) (map (equation_of more) covers) os (map label outputs ++ map label args)) ended) (sym (map-append (output_ref more) outputs args))
-            ∙ (ap (λ ls. known_by more (drafted (map (number_of more) inputs) (map label inputs) (map (equation_of more) covers) (map (output_ref more) (outputs ++ args)) ls) ended) (sym (map-append label outputs args))
+            ∙ (ap (λ os. known_by more (drafted (map (signal_number more) inputs) (map label inputs) (map (equation_of more) covers) os (map label outputs ++ map label args)) ended) (sym (map-append (output_ref more) outputs args))
+            ∙ (ap (λ ls. known_by more (drafted (map (signal_number more) inputs) (map label inputs) (map (equation_of more) covers) (map (output_ref more) (outputs ++ args)) ls) ended) (sym (map-append label outputs args))
             ∙ ap (λ is. made more is (outputs ++ args) covers None true ended) (sym (append-nil inputs))))),
         record {
           inputs_in = named_append more inputs [] still.inputs_in tt;
@@ -183,7 +181,7 @@ module _ (next : Known) (names inputs outputs : List (List ℕ)) (covers : List 
           let all = all_named names (arg ∷ args) in (
             same
                 ∙ (ap (λ (n : List ℕ × List (List ℕ)). begun_by n.1 (draft_with names inputs outputs covers) (empty_cover n.0)) (numbered_is names (arg ∷ args) numbers i)
-                ∙ (ap (λ d. begun_by more d (empty_cover (map (number_of more) (arg ∷ args)))) (sym (same_draft names more inputs outputs covers (grows_names names (arg ∷ args)) whole))
+                ∙ (ap (λ d. begun_by more d (empty_cover (map (signal_number more) (arg ∷ args)))) (sym (same_draft names more inputs outputs covers (grows_names names (arg ∷ args)) whole))
                 ∙ (ap (λ c. begun_by more (draft_with more inputs outputs covers) c) (empty_is more (arg ∷ args) (omega arith))
                 ∙ made_same more inputs outputs covers (Some (cover_text (arg ∷ args) [])) true ended))),
             record {

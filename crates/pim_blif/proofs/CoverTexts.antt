@@ -4,11 +4,10 @@ use mathlib.Core.List.{reverse_aux}
 use Rattle.std.specs.List.{prefix_len}
 use Rattle.std.specs.Option.{option_to_list, is_none}
 use Rattle.std.proofs.lemmas.List.{append-nil}
+use Rattle.pim_blif.specs.inner.Judging.{ended_behind, ended_covers}
 use Rattle.pim_blif.specs.Statements.{Statement}
-use Rattle.pim_blif.specs.Directives.{directive}
-use Rattle.pim_blif.specs.Covers.{CoverText, is_row, rows_before, begun, covers_of, open_behind, open_cover, ended_behind, ended_covers}
-use Rattle.pim_blif.specs.declared.directive.Directive.{Directive}
-use Rattle.pim_blif.specs.declared.directive.Directive.TheVariants.{Model, Inputs, Outputs, Names, End, PassedOver, Unsupported}
+use Rattle.pim_blif.specs.Directives.{Directive, Model, Inputs, Outputs, Names, End, PassedOver, Unsupported, directive}
+use Rattle.pim_blif.specs.Covers.{CoverText, is_row, rows_before, begun, covers_of, open_behind, open_cover}
 
 -- the covers of further statements, where this one is open before them
 abbrev pub finished : Option CoverText → List Statement → List CoverText

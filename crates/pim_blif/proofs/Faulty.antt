@@ -9,19 +9,17 @@ use Rattle.std.proofs.lemmas.List.{map-append, length-map, length_push}
 use Rattle.std.proofs.lemmas.Slice.Eq.{bytes_eq-Decides}
 use Rattle.pim_io.specs.Names.{label}
 use Rattle.pim_net.specs.declared.kind.Kind.TheVariants as kinds
-use Rattle.pim_blif.specs.declared.directive.Directive.{Directive}
-use Rattle.pim_blif.specs.declared.directive.Directive.TheVariants.{Model, Inputs, Outputs, Names, End, PassedOver, Unsupported}
 use Rattle.pim_blif.specs.declared.fault.BlifFault.{BlifFault}
 use Rattle.pim_blif.specs.declared.fault.BlifFault.TheVariants as faults
-use Rattle.pim_blif.specs.Signals.{number_of, is_known, with_name}
+use Rattle.pim_blif.specs.Signals.{signal_number, is_known, with_name}
 use Rattle.pim_blif.specs.Statements.{Statement}
-use Rattle.pim_blif.specs.Directives.{directive, arguments, first_word, is_end}
+use Rattle.pim_blif.specs.Directives.{Directive, Model, Inputs, Outputs, Names, End, PassedOver, Unsupported, directive, arguments, first_word, is_end}
 use Rattle.pim_blif.specs.Rows.{cells_of, pattern_of, row_at}
 use Rattle.pim_blif.specs.Covers.{CoverText, open_cover, is_one, cover_of, equation_of}
 use Rattle.pim_blif.specs.Netlists.{names_of, inputs_of, outputs_of, output_ref}
-use Rattle.pim_blif.specs.Judging.{Known, named, with_input, with_output, each, numbered, empty_cover, with_cover, first_value, with_row, with_row_at, row_of, without_cover, allowed, known_behind, judged, known_from}
+use Rattle.pim_blif.specs.inner.Judging.{Known, named, with_input, with_output, each, numbered, empty_cover, with_cover, first_value, with_row, with_row_at, row_of, without_cover, allowed, known_behind, judged, known_from}
 use Rattle.pim_blif.specs.StatementFaults.{fault_if, name_fault, is_among, inputs_fault, outputs_fault, names_fault, cover_fault, first_of, row_fault, placed_fault, fault_of, unsupported}
-use Rattle.pim_blif.specs.Steps.{◌>>=◌}
+use Rattle.pim_io.specs.Readings.{◌>>=◌}
 use Rattle.pim_blif.proofs.Knowing.{with_inputs, with_outputs, input_is, output_is}
 use Rattle.pim_blif.proofs.Growing.{IsNamed, AreNamed, named_append, still_all, same_numbers, grows_name, number_same, is_named, named_is}
 
@@ -36,30 +34,30 @@ named_fault names name = by (ltb 4096 (length name)) (is_known names name) (leb 
     by false false false = refl
 
 -- two names with one number are one, where the first is among the names
-one_name : (names : List (List ℕ)) (x y : List ℕ) → IsNamed names x → number_of names x ≡ number_of names y → x ≡ y
+one_name : (names : List (List ℕ)) (x y : List ℕ) → IsNamed names x → signal_number names x ≡ signal_number names y → x ≡ y
 one_name [] x y h e = absurd (omega arith)
 one_name (known ∷ names) x y h e = by (bytes_eq known x) (bytes_eq known y) refl refl (λ h e. one_name names x y h e) h e
   where
-    by : (s t : Bool) → bytes_eq known x ≡ s → bytes_eq known y ≡ t → (IsNamed names x → number_of names x ≡ number_of names y → x ≡ y) → cond {A = ℕ} s 0 (suc (number_of names x)) < suc (length names) → cond {A = ℕ} s 0 (suc (number_of names x)) ≡ cond {A = ℕ} t 0 (suc (number_of names y)) → x ≡ y
+    by : (s t : Bool) → bytes_eq known x ≡ s → bytes_eq known y ≡ t → (IsNamed names x → signal_number names x ≡ signal_number names y → x ≡ y) → cond {A = ℕ} s 0 (suc (signal_number names x)) < suc (length names) → cond {A = ℕ} s 0 (suc (signal_number names x)) ≡ cond {A = ℕ} t 0 (suc (signal_number names y)) → x ≡ y
     by true true i j rest h e = sym ((bytes_eq-Decides known x).0 i) ∙ (bytes_eq-Decides known y).0 j
     by true false i j rest h e = absurd (omega arith)
     by false true i j rest h e = absurd (omega arith)
     by false false i j rest h e = rest (omega arith) (omega arith)
 
-same_test : (names : List (List ℕ)) (x y : List ℕ) → IsNamed names x → eqb (number_of names x) (number_of names y) ≡ bytes_eq x y
+same_test : (names : List (List ℕ)) (x y : List ℕ) → IsNamed names x → eqb (signal_number names x) (signal_number names y) ≡ bytes_eq x y
 same_test names x y h = by (bytes_eq x y) refl
   where
-    by : (t : Bool) → bytes_eq x y ≡ t → eqb (number_of names x) (number_of names y) ≡ t
-    by true i = eq-eqb (number_of names x) (number_of names y) (ap (number_of names) ((bytes_eq-Decides x y).0 i))
-    by false i = ne_eqb (number_of names x) (number_of names y) (λ e. (let t : bytes_eq x y ≡ true = (bytes_eq-Decides x y).1 (one_name names x y h e) in absurd cc))
+    by : (t : Bool) → bytes_eq x y ≡ t → eqb (signal_number names x) (signal_number names y) ≡ t
+    by true i = eq-eqb (signal_number names x) (signal_number names y) (ap (signal_number names) ((bytes_eq-Decides x y).0 i))
+    by false i = ne_eqb (signal_number names x) (signal_number names y) (λ e. (let t : bytes_eq x y ≡ true = (bytes_eq-Decides x y).1 (one_name names x y h e) in absurd cc))
 
 -- an input is one already by its number where it is one by its name
-among_same : (names inputs : List (List ℕ)) (name : List ℕ) → AreNamed names inputs → list_any (λ s. eqb s (number_of names name)) (map (number_of names) inputs) ≡ is_among inputs name
+among_same : (names inputs : List (List ℕ)) (name : List ℕ) → AreNamed names inputs → list_any (λ s. eqb s (signal_number names name)) (map (signal_number names) inputs) ≡ is_among inputs name
 among_same names [] name h = refl
 among_same names (x ∷ inputs) name h =
     let one = same_test names x name h.0 in
     let rest = among_same names inputs name h.1 in
-    ap (λ t. t || list_any (λ s. eqb s (number_of names name)) (map (number_of names) inputs)) one ∙ ap (λ t. bytes_eq x name || t) rest
+    ap (λ t. t || list_any (λ s. eqb s (signal_number names name)) (map (signal_number names) inputs)) one ∙ ap (λ t. bytes_eq x name || t) rest
 
 -- a reading that is told its value has the fault of what begins it
 pub err_then : {A B : Type 0} (r : Result A BlifFault) (f : A → B) → result_err (r >>= λ x. Ok (f x)) ≡ result_err r
@@ -83,14 +81,14 @@ or_none (Some fault) = refl
 
 -- what is known has these inputs
 record HasInputs (k : Known) (inputs : List (List ℕ)) : Type 0 where
-  inputs_are : k.draft.inputs ≡ map (number_of k.names) inputs
+  inputs_are : k.draft.inputs ≡ map (signal_number k.names) inputs
   in_names : AreNamed k.names inputs
 
 input_fault : (line : ℕ) (k : Known) (inputs : List (List ℕ)) (name : List ℕ) → HasInputs k inputs → result_err (with_input line k name) ≡ option_or (name_fault k.names name) (fault_if (is_among inputs name) (faults.TwiceInput line))
 unfolding with_input
 input_fault line k inputs name h =
-    let is_input : List ℕ → Bool = λ signals. list_any (λ s. eqb s (number_of k.names name)) signals in
-    then_test (named k.names name) (is_input k.draft.inputs) (faults.TwiceInput line) (λ names. with_inputs k names (number_of k.names name ∷ []) (label name ∷ []))
+    let is_input : List ℕ → Bool = λ signals. list_any (λ s. eqb s (signal_number k.names name)) signals in
+    then_test (named k.names name) (is_input k.draft.inputs) (faults.TwiceInput line) (λ names. with_inputs k names (signal_number k.names name ∷ []) (label name ∷ []))
     ∙ (ap (λ o. option_or o (fault_if (is_input k.draft.inputs) (faults.TwiceInput line))) (named_fault k.names name)
     ∙ ap (λ t. option_or (name_fault k.names name) (fault_if t (faults.TwiceInput line))) (ap is_input h.inputs_are ∙ among_same k.names inputs name h.in_names))
 
@@ -98,11 +96,11 @@ input_next : (line : ℕ) (k next : Known) (inputs : List (List ℕ)) (name : Li
 input_next line k next inputs name h e =
     let more = with_name k.names name in
     let P : Known → Type 0 = λ k. HasInputs k (inputs ++ name ∷ []) in
-    let signals : k.draft.inputs ++ number_of k.names name ∷ [] ≡ map (number_of more) (inputs ++ name ∷ []) =
-    ap (λ is. is ++ number_of k.names name ∷ []) h.inputs_are
-    ∙ (ap (λ is. is ++ number_of k.names name ∷ []) (sym (same_numbers k.names more inputs (grows_name k.names name) h.in_names))
-    ∙ (ap (λ n. map (number_of more) inputs ++ n ∷ []) (sym (number_same k.names name))
-    ∙ sym (map-append (number_of more) inputs (name ∷ [])))) in
+    let signals : k.draft.inputs ++ signal_number k.names name ∷ [] ≡ map (signal_number more) (inputs ++ name ∷ []) =
+    ap (λ is. is ++ signal_number k.names name ∷ []) h.inputs_are
+    ∙ (ap (λ is. is ++ signal_number k.names name ∷ []) (sym (same_numbers k.names more inputs (grows_name k.names name) h.in_names))
+    ∙ (ap (λ n. map (signal_number more) inputs ++ n ∷ []) (sym (number_same k.names name))
+    ∙ sym (map-append (signal_number more) inputs (name ∷ [])))) in
     subst P (sym (input_is line k next name e)) (record {
       inputs_are = signals;
       in_names = named_append more inputs (name ∷ []) (still_all k.names more inputs (grows_name k.names name) h.in_names) (is_named k.names name, tt);
@@ -146,10 +144,10 @@ names_same names (word ∷ words) =
     by (named names word) refl (λ after. names_same after words)
     ∙ ap (λ o. option_or o (names_fault (with_name names word) words)) (named_fault names word)
   where
-    by : (r : Result (List (List ℕ)) BlifFault) → named names word ≡ r → ((after : List (List ℕ)) → result_err (numbered after words) ≡ names_fault after words) → result_err {T = List ℕ × List (List ℕ)} (r >>= λ after. numbered after words >>= λ others. Ok (number_of names word ∷ others.0, others.1)) ≡ option_or (result_err r) (names_fault (with_name names word) words)
+    by : (r : Result (List (List ℕ)) BlifFault) → named names word ≡ r → ((after : List (List ℕ)) → result_err (numbered after words) ≡ names_fault after words) → result_err {T = List ℕ × List (List ℕ)} (r >>= λ after. numbered after words >>= λ others. Ok (signal_number names word ∷ others.0, others.1)) ≡ option_or (result_err r) (names_fault (with_name names word) words)
     by (Err fault) i rest = refl
     by (Ok after) i rest =
-        err_then {B = List ℕ × List (List ℕ)} (numbered after words) (λ others. (number_of names word ∷ others.0, others.1))
+        err_then {B = List ℕ × List (List ℕ)} (numbered after words) (λ others. (signal_number names word ∷ others.0, others.1))
         ∙ (rest after ∙ ap (λ ns. names_fault ns words) (named_is names after word i))
 
 cover_same : (line : ℕ) (k : Known) (words : List (List ℕ)) → result_err (with_cover line k words) ≡ cover_fault line k.names words
@@ -169,8 +167,8 @@ unfolding with_row_at
 row_same line k names None words = refl
 row_same line k names (Some c) words =
     err_then (with_row_at line (equation_of names c) words) (λ e. record k { cover = Some e })
-    ∙ (err_then (row_at line (length (map (number_of names) c.columns)) (first_value (cover_of names c)) words) (with_row (equation_of names c))
-    ∙ (ap (λ width. result_err (row_at line width (first_value (cover_of names c)) words)) (length-map c.columns (number_of names))
+    ∙ (err_then (row_at line (length (map (signal_number names) c.columns)) (first_value (cover_of names c)) words) (with_row (equation_of names c))
+    ∙ (ap (λ width. result_err (row_at line width (first_value (cover_of names c)) words)) (length-map c.columns (signal_number names))
     ∙ ap (λ first. result_err (row_at line (length c.columns) first words)) (first_same names c c.rows)))
 
 -- a statement is refused for its fault

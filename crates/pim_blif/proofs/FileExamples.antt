@@ -1,17 +1,17 @@
 -- Small files, with the netlist or the fault that each gives, by computation.
-use Rattle.std.specs.Prelude.{◌≡◌, ℕ, List, [], ◌∷◌, ◌++◌, Bool, true, false, Ok, Err, Some, None, refl, codes, replicate}
+use Rattle.std.specs.Prelude.{◌≡◌, ◌&&◌, ℕ, List, [], ◌∷◌, ◌++◌, Bool, true, false, not, Ok, Err, Some, None, refl, codes, length, map, replicate}
+use Rattle.std.proofs.Common.{leb, ap, ◌∙◌}
 use Rattle.pim_net.specs.declared.cover.Bit3.{Bit3}
 use Rattle.pim_net.specs.declared.cover.Bit3.TheVariants.{Zero, One, Any}
 use Rattle.pim_net.specs.declared.fault.NetFault.TheVariants as net_faults
 use Rattle.pim_net.specs.declared.kind.Kind.TheVariants as kinds
 use Rattle.pim_net.specs.declared.parts.Equation.{Equation}
 use Rattle.pim_net.specs.declared.parts.OutRef.{OutRef}
-use Rattle.pim_blif.specs.declared.directive.Directive.TheVariants.{PassedOver, Unsupported}
 use Rattle.pim_blif.specs.declared.fault.BlifFault.TheVariants as faults
-use Rattle.pim_blif.specs.Directives.{directive_of, directive_named}
-use Rattle.pim_blif.specs.Signals.{distinct}
+use Rattle.pim_blif.specs.Directives.{PassedOver, Unsupported, passed_over, directive_of, directive_named}
+use Rattle.pim_blif.specs.Signals.{is_known, distinct}
 use Rattle.pim_blif.specs.Rows.{row_at}
-use Rattle.pim_blif.specs.StatementFaults.{name_fault, outputs_fault}
+use Rattle.pim_blif.specs.StatementFaults.{fault_if, name_fault, outputs_fault}
 use Rattle.pim_blif.specs.Files.{net_of, netlist_by, judged_net}
 
 -- a line before others
@@ -37,7 +37,7 @@ exclusive_or : net_of (line (codes ".model x") (line (codes ".inputs a b") (line
 unfolding net_of netlist_by judged_net directive_named row_at line equation plain
 exclusive_or = refl
 
--- a cover whose rows say where it is false
+-- a cover whose rows tell where it is false
 off_set : net_of (line (codes ".inputs a b") (line (codes ".outputs f") (line (codes ".names a b f") (line (codes "1- 0") [])))) ≡ Ok (record {
   inputs = 0 ∷ 1 ∷ [];
   input_labels = codes "a" ∷ codes "b" ∷ [];
@@ -132,8 +132,22 @@ longest_name = refl
 long_name : name_fault [] (replicate 4097 120) ≡ Some (faults.TooLarge kinds.Name)
 long_name = refl
 
+last_output : outputs_fault [] 1048575 (codes "f" ∷ []) ≡ None
+last_output = refl
+
 many_outputs : outputs_fault [] 1048575 (codes "f" ∷ codes "f" ∷ []) ≡ Some (faults.TooLarge kinds.Outputs)
 many_outputs = refl
+
+-- where all numbers but one are in use, a new name has the last, and where all are, it is one too many
+last_signal : (names : List (List ℕ)) → length names ≡ 1048575 → is_known names (codes "f") ≡ false → name_fault names (codes "f") ≡ None
+last_signal names count new =
+    ap (λ known. fault_if (not known && leb 1048576 (length names)) (faults.TooLarge kinds.Signals)) new
+    ∙ ap (λ n. fault_if (leb 1048576 n) (faults.TooLarge kinds.Signals)) count
+
+many_signals : (names : List (List ℕ)) → length names ≡ 1048576 → is_known names (codes "f") ≡ false → name_fault names (codes "f") ≡ Some (faults.TooLarge kinds.Signals)
+many_signals names count new =
+    ap (λ known. fault_if (not known && leb 1048576 (length names)) (faults.TooLarge kinds.Signals)) new
+    ∙ ap (λ n. fault_if (leb 1048576 n) (faults.TooLarge kinds.Signals)) count
 
 -- a netlist that is not well-formed, with the labels of its signals
 undriven : net_of (line (codes ".outputs f") (line (codes ".names u f") (line (codes "1 1") []))) ≡ Err (faults.Net (net_faults.Undriven 1) (codes "f" ∷ codes "u" ∷ []))
@@ -152,3 +166,8 @@ default_load = refl
 default_wire : directive_of (codes ".default_wire") ≡ Some Unsupported
 unfolding directive_named
 default_wire = refl
+
+-- each of the fourteen directives is passed over
+all_passed_over : map (λ name. directive_of (46 ∷ name)) passed_over ≡ replicate 14 (Some PassedOver)
+unfolding directive_named
+all_passed_over = refl

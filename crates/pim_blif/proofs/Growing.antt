@@ -6,13 +6,13 @@ use Rattle.std.proofs.lemmas.Slice.Eq.{bytes_eq-Decides}
 use Rattle.std.specs.Str.{bytes_eq}
 use Rattle.pim_blif.specs.declared.fault.BlifFault.TheVariants as faults
 use Rattle.pim_net.specs.declared.kind.Kind.TheVariants as kinds
-use Rattle.pim_blif.specs.Signals.{number_of, is_known, with_name, with_names}
-use Rattle.pim_blif.specs.Judging.{named}
+use Rattle.pim_blif.specs.Signals.{signal_number, is_known, with_name, with_names}
+use Rattle.pim_blif.specs.inner.Judging.{named}
 use Rattle.pim_blif.proofs.Found.{number_within}
 
 -- a name is among the names
 abbrev pub IsNamed : List (List ℕ) → List ℕ → Type 0
-IsNamed names name = number_of names name < length names
+IsNamed names name = signal_number names name < length names
 
 -- each of these words is among the names
 abbrev pub AreNamed : List (List ℕ) → List (List ℕ) → Type 0
@@ -21,7 +21,7 @@ AreNamed names (word ∷ words) = IsNamed names word × AreNamed names words
 
 -- further names, where each name keeps its number
 pub record Grows (names more : List (List ℕ)) : Type 0 where
-  pub same : (name : List ℕ) → IsNamed names name → number_of more name ≡ number_of names name
+  pub same : (name : List ℕ) → IsNamed names name → signal_number more name ≡ signal_number names name
   pub longer : length names ≤ length more
 
 pub grows_not : (names : List (List ℕ)) → Grows names names
@@ -39,11 +39,11 @@ grows_on names more most g h = record {
   longer = (let a = g.longer in let b = h.longer in omega arith);
 }
 
-number_front : (names others : List (List ℕ)) (name : List ℕ) → IsNamed names name → number_of (names ++ others) name ≡ number_of names name
+number_front : (names others : List (List ℕ)) (name : List ℕ) → IsNamed names name → signal_number (names ++ others) name ≡ signal_number names name
 number_front [] others name h = absurd (omega arith)
 number_front (known ∷ names) others name h = by (bytes_eq known name) (λ k. number_front names others name k) h
   where
-    by : (t : Bool) → (IsNamed names name → number_of (names ++ others) name ≡ number_of names name) → cond {A = ℕ} t 0 (suc (number_of names name)) < suc (length names) → cond {A = ℕ} t 0 (suc (number_of (names ++ others) name)) ≡ cond {A = ℕ} t 0 (suc (number_of names name))
+    by : (t : Bool) → (IsNamed names name → signal_number (names ++ others) name ≡ signal_number names name) → cond {A = ℕ} t 0 (suc (signal_number names name)) < suc (length names) → cond {A = ℕ} t 0 (suc (signal_number (names ++ others) name)) ≡ cond {A = ℕ} t 0 (suc (signal_number names name))
     by true same h = refl
     by false same h = ap (λ n. suc n) (same (omega arith))
 
@@ -51,7 +51,7 @@ same_bytes : (name : List ℕ) → bytes_eq name name ≡ true
 same_bytes name = (bytes_eq-Decides name name).1 refl
 
 -- a name that is appended has the number that it would have
-number_pushed : (names : List (List ℕ)) (name : List ℕ) → number_of (names ++ name ∷ []) name ≡ number_of names name
+number_pushed : (names : List (List ℕ)) (name : List ℕ) → signal_number (names ++ name ∷ []) name ≡ signal_number names name
 number_pushed [] name = ap (λ t. cond {A = ℕ} t 0 1) (same_bytes name)
 number_pushed (known ∷ names) name = ap (λ n. cond {A = ℕ} (bytes_eq known name) 0 (suc n)) (number_pushed names name)
 
@@ -69,10 +69,10 @@ grows_name names name = by (is_known names name)
     by false = grows_push names name
 
 -- the number of a name is the same before and after it is taken up
-pub number_same : (names : List (List ℕ)) (name : List ℕ) → number_of (with_name names name) name ≡ number_of names name
+pub number_same : (names : List (List ℕ)) (name : List ℕ) → signal_number (with_name names name) name ≡ signal_number names name
 number_same names name = by (is_known names name)
   where
-    by : (t : Bool) → number_of (cond t names (names ++ name ∷ [])) name ≡ number_of names name
+    by : (t : Bool) → signal_number (cond t names (names ++ name ∷ [])) name ≡ signal_number names name
     by true = refl
     by false = number_pushed names name
 
@@ -80,7 +80,7 @@ pub is_named : (names : List (List ℕ)) (name : List ℕ) → IsNamed (with_nam
 is_named names name = by (is_known names name) refl
   where
     by : (t : Bool) → is_known names name ≡ t → IsNamed (cond t names (names ++ name ∷ [])) name
-    by true e = ltb-true (number_of names name) (length names) e
+    by true e = ltb-true (signal_number names name) (length names) e
     by false e =
         let same = number_pushed names name in
         let size = length-append names (name ∷ []) in
@@ -103,7 +103,7 @@ pub named_append : (names xs ys : List (List ℕ)) → AreNamed names xs → Are
 named_append names [] ys h k = k
 named_append names (x ∷ xs) ys h k = (h.0, named_append names xs ys h.1 k)
 
-pub same_numbers : (names more words : List (List ℕ)) → Grows names more → AreNamed names words → map (number_of more) words ≡ map (number_of names) words
+pub same_numbers : (names more words : List (List ℕ)) → Grows names more → AreNamed names words → map (signal_number more) words ≡ map (signal_number names) words
 same_numbers names more [] g h = refl
 same_numbers names more (word ∷ words) g h =
     let one = g.same word h.0 in
@@ -111,7 +111,7 @@ same_numbers names more (word ∷ words) g h =
     cc
 
 -- the first of some words is numbered as it is once all of them are taken up
-pub number_stays : (names words : List (List ℕ)) (word : List ℕ) → number_of (with_names (with_name names word) words) word ≡ number_of names word
+pub number_stays : (names words : List (List ℕ)) (word : List ℕ) → signal_number (with_names (with_name names word) words) word ≡ signal_number names word
 number_stays names words word = (grows_names (with_name names word) words).same word (is_named names word) ∙ number_same names word
 
 pub with_names-append : (names xs ys : List (List ℕ)) → with_names names (xs ++ ys) ≡ with_names (with_names names xs) ys

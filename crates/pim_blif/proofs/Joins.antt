@@ -1,9 +1,8 @@
 -- How a line is joined to a statement, and how many words it has.
-use Rattle.std.proofs.Common.{◌≡◌, ℕ, ◌+◌, ◌-◌, ◌*◌, ◌<◌, ◌≤◌, Bool, true, false, List, [], ◌∷◌, ◌++◌, length, Option, Some, None, refl, ap, arith, cond, take, length-append}
+use Rattle.std.proofs.Common.{◌≡◌, ℕ, ◌+◌, ◌-◌, ◌*◌, ◌≤◌, Bool, true, false, List, [], ◌∷◌, ◌++◌, length, Option, Some, None, refl, ap, arith, cond, take, length-append}
 use Rattle.std.specs.Option.{MatchOption, unwrap_or, option_map}
 use Rattle.std.proofs.lemmas.List.{length-take}
-use Rattle.std.specs.List.{All, before_first, position_or_len, suffix_len}
-use Rattle.std.proofs.lemmas.List.Elements.{All-nil, All-cons, All-same, All-append}
+use Rattle.std.specs.List.{before_first, position_or_len, suffix_len}
 use Rattle.pim_io.specs.Lines.{LineView}
 use Rattle.pim_io.specs.Words.{is_blank, close, words_after, words}
 use Rattle.pim_blif.specs.Statements.{Statement, is_hash, content, goes_on, words_of, stated, statements_after}
@@ -41,21 +40,3 @@ words_of_few text =
 -- so many words are there once a line is joined
 pub joined_few : (before after : List (List ℕ)) (line : List ℕ) → after ≡ before ++ words_of line → 2 * length after ≤ 2 * length before + length line + 1
 joined_few before after line e = omega (arith, words_of_few line, ap length e, length-append before (words_of line))
-
--- a run stands as a word only if it has bytes
-close_some : (run : List ℕ) (others : List (List ℕ)) → All (λ (word : List ℕ). 0 < length word) others → All (λ (word : List ℕ). 0 < length word) (close run others)
-close_some [] others h = h
-close_some (b ∷ run) others h = All-cons (λ (word : List ℕ). 0 < length word) (b ∷ run) others (omega arith) h
-
-words_after_some : (run text : List ℕ) → All (λ (word : List ℕ). 0 < length word) (words_after run text)
-words_after_some run [] = close_some run [] (All-nil (λ (word : List ℕ). 0 < length word))
-words_after_some run (b ∷ text) =
-    elim (is_blank b) as (λ v. All (λ (word : List ℕ). 0 < length word) (cond v (close run (words_after [] text)) (words_after (run ++ b ∷ []) text))) [
-      | true ↦ close_some run (words_after [] text) (words_after_some [] text)
-      | false ↦ words_after_some (run ++ b ∷ []) text
-    ]
-
--- words with bytes stay so once a line is joined
-pub joined_some : (before after : List (List ℕ)) (line : List ℕ) → after ≡ before ++ words_of line → All (λ (word : List ℕ). 0 < length word) before → All (λ (word : List ℕ). 0 < length word) after
-joined_some before after line e h =
-    All-same (λ (word : List ℕ). 0 < length word) after (before ++ words_of line) e (All-append (λ (word : List ℕ). 0 < length word) before (words_of line) h (words_after_some [] (cond (goes_on line) (take (length (content line) - 1) (content line)) (content line))))

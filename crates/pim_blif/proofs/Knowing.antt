@@ -10,12 +10,12 @@ use Rattle.pim_net.specs.declared.parts.OutRef.{OutRef}
 use Rattle.pim_net.specs.declared.kind.Kind.TheVariants as kinds
 use Rattle.pim_blif.specs.declared.fault.BlifFault.{BlifFault}
 use Rattle.pim_blif.specs.declared.fault.BlifFault.TheVariants as faults
-use Rattle.pim_blif.specs.Signals.{number_of, with_name, with_names}
+use Rattle.pim_blif.specs.Signals.{signal_number, with_name, with_names}
 use Rattle.pim_blif.specs.Rows.{cells_of, pattern_of}
 use Rattle.pim_blif.specs.Covers.{CoverText, cover_text, phase_of, equation_of}
 use Rattle.pim_blif.specs.Netlists.{draft_with, output_ref}
-use Rattle.pim_blif.specs.Judging.{Known, named, with_input, with_output, each, numbered, empty_cover, without_cover}
-use Rattle.pim_blif.specs.Steps.{◌>>=◌}
+use Rattle.pim_blif.specs.inner.Judging.{Known, named, with_input, with_output, each, numbered, empty_cover, without_cover}
+use Rattle.pim_io.specs.Readings.{◌>>=◌}
 use Rattle.pim_blif.proofs.Growing.{IsNamed, AreNamed, Grows, still_named, still_all, named_append, same_numbers, number_stays, named_is}
 
 -- all that is known, where these names, inputs, outputs and covers came
@@ -86,8 +86,8 @@ equation_by sig ins c = record { sig = sig; cover = record { ins = ins; rows = m
 same_equation : (names more : List (List ℕ)) (c : CoverText) → Grows names more → IsCoverNamed names c → equation_of more c ≡ equation_of names c
 unfolding equation_by
 same_equation names more c g h =
-    ap (λ sig. equation_by sig (map (number_of more) c.columns) c) (g.same c.driven h.1)
-    ∙ ap (λ ins. equation_by (number_of names c.driven) ins c) (same_numbers names more c.columns g h.0)
+    ap (λ sig. equation_by sig (map (signal_number more) c.columns) c) (g.same c.driven h.1)
+    ∙ ap (λ ins. equation_by (signal_number names c.driven) ins c) (same_numbers names more c.columns g h.0)
 
 same_equations : (names more : List (List ℕ)) (covers : List CoverText) → Grows names more → AreCoversNamed names covers → map (equation_of more) covers ≡ map (equation_of names) covers
 same_equations names more [] g h = refl
@@ -115,8 +115,8 @@ drafted inputs input_labels equations outputs output_labels = record {
 pub same_draft : (names more inputs outputs : List (List ℕ)) (covers : List CoverText) → Grows names more → IsWhole names inputs outputs covers None → draft_with more inputs outputs covers ≡ draft_with names inputs outputs covers
 same_draft names more inputs outputs covers g w =
     ap (λ is. drafted is (map label inputs) (map (equation_of more) covers) (map (output_ref more) outputs) (map label outputs)) (same_numbers names more inputs g w.inputs_in)
-    ∙ (ap (λ es. drafted (map (number_of names) inputs) (map label inputs) es (map (output_ref more) outputs) (map label outputs)) (same_equations names more covers g w.covers_in)
-    ∙ ap (λ os. drafted (map (number_of names) inputs) (map label inputs) (map (equation_of names) covers) os (map label outputs)) (same_outputs names more outputs g w.outputs_in))
+    ∙ (ap (λ es. drafted (map (signal_number names) inputs) (map label inputs) es (map (output_ref more) outputs) (map label outputs)) (same_equations names more covers g w.covers_in)
+    ∙ ap (λ os. drafted (map (signal_number names) inputs) (map label inputs) (map (equation_of names) covers) os (map label outputs)) (same_outputs names more outputs g w.outputs_in))
 
 ended_equations : (names : List (List ℕ)) (covers : List CoverText) (cover : Option CoverText) → map (equation_of names) covers ++ option_to_list (option_map (equation_of names) cover) ≡ map (equation_of names) (covers ++ option_to_list cover)
 ended_equations names covers None = append-nil (map (equation_of names) covers) ∙ ap (map (equation_of names)) (sym (append-nil covers))
@@ -127,7 +127,7 @@ pub made_ended : (names inputs outputs : List (List ℕ)) (covers : List CoverTe
 made_ended names inputs outputs covers cover started ended =
     ap (λ es. record {
       names = names;
-      draft = drafted (map (number_of names) inputs) (map label inputs) es (map (output_ref names) outputs) (map label outputs);
+      draft = drafted (map (signal_number names) inputs) (map label inputs) es (map (output_ref names) outputs) (map label outputs);
       cover = None;
       started = true;
       ended = ended;
@@ -157,12 +157,12 @@ with_inputs k names inputs labels = record k {
   draft = record k.draft { inputs = k.draft.inputs ++ inputs; input_labels = k.draft.input_labels ++ labels };
 }
 
-pub input_is : (line : ℕ) (k next : Known) (name : List ℕ) → with_input line k name ≡ Ok next → next ≡ with_inputs k (with_name k.names name) (number_of k.names name ∷ []) (label name ∷ [])
+pub input_is : (line : ℕ) (k next : Known) (name : List ℕ) → with_input line k name ≡ Ok next → next ≡ with_inputs k (with_name k.names name) (signal_number k.names name ∷ []) (label name ∷ [])
 unfolding with_input
-input_is line k next name e = by (named k.names name) (list_any (λ s. s == number_of k.names name) k.draft.inputs) refl e
+input_is line k next name e = by (named k.names name) (list_any (λ s. s == signal_number k.names name) k.draft.inputs) refl e
   where
     one : List (List ℕ) → Known
-    one names = with_inputs k names (number_of k.names name ∷ []) (label name ∷ [])
+    one names = with_inputs k names (signal_number k.names name ∷ []) (label name ∷ [])
 
     by : (r : Result (List (List ℕ)) BlifFault) (t : Bool) → named k.names name ≡ r → (r >>= λ names. cond t (Err (faults.TwiceInput line)) (Ok (one names))) ≡ Ok next → next ≡ one (with_name k.names name)
     by (Err fault) t i e = absurd cc
@@ -178,20 +178,20 @@ inputs_none : (k : Known) → k ≡ with_inputs k k.names [] []
 inputs_none k = simp append-nil
 
 -- the inputs of a statement that has no fault
-pub inputs_taken : (line : ℕ) (k next : Known) (words : List (List ℕ)) → each (with_input line) k words ≡ Ok next → next ≡ with_inputs k (with_names k.names words) (map (number_of (with_names k.names words)) words) (map label words)
+pub inputs_taken : (line : ℕ) (k next : Known) (words : List (List ℕ)) → each (with_input line) k words ≡ Ok next → next ≡ with_inputs k (with_names k.names words) (map (signal_number (with_names k.names words)) words) (map label words)
 inputs_taken line k next [] e =
     let same : next ≡ k = cc in
     same ∙ inputs_none k
 inputs_taken line k next (word ∷ words) e = by (with_input line k word) refl e (λ first f. inputs_taken line first next words f)
   where
-    by : (r : Result Known BlifFault) → with_input line k word ≡ r → (r >>= λ first. each (with_input line) first words) ≡ Ok next → ((first : Known) → each (with_input line) first words ≡ Ok next → next ≡ with_inputs first (with_names first.names words) (map (number_of (with_names first.names words)) words) (map label words)) → next ≡ with_inputs k (with_names (with_name k.names word) words) (map (number_of (with_names (with_name k.names word) words)) (word ∷ words)) (map label (word ∷ words))
+    by : (r : Result Known BlifFault) → with_input line k word ≡ r → (r >>= λ first. each (with_input line) first words) ≡ Ok next → ((first : Known) → each (with_input line) first words ≡ Ok next → next ≡ with_inputs first (with_names first.names words) (map (signal_number (with_names first.names words)) words) (map label words)) → next ≡ with_inputs k (with_names (with_name k.names word) words) (map (signal_number (with_names (with_name k.names word) words)) (word ∷ words)) (map label (word ∷ words))
     by (Err fault) i e others = absurd cc
     by (Ok first) i e others =
-        let is : first ≡ with_inputs k (with_name k.names word) (number_of k.names word ∷ []) (label word ∷ []) = input_is line k first word i in
+        let is : first ≡ with_inputs k (with_name k.names word) (signal_number k.names word ∷ []) (label word ∷ []) = input_is line k first word i in
         others first e
-        ∙ (ap (λ f. with_inputs f (with_names f.names words) (map (number_of (with_names f.names words)) words) (map label words)) is
-        ∙ (inputs_on k (with_name k.names word) (with_names (with_name k.names word) words) (number_of k.names word ∷ []) (map (number_of (with_names (with_name k.names word) words)) words) (label word ∷ []) (map label words)
-        ∙ ap (λ n. with_inputs k (with_names (with_name k.names word) words) (n ∷ map (number_of (with_names (with_name k.names word) words)) words) (label word ∷ map label words)) (sym (number_stays k.names words word))))
+        ∙ (ap (λ f. with_inputs f (with_names f.names words) (map (signal_number (with_names f.names words)) words) (map label words)) is
+        ∙ (inputs_on k (with_name k.names word) (with_names (with_name k.names word) words) (signal_number k.names word ∷ []) (map (signal_number (with_names (with_name k.names word) words)) words) (label word ∷ []) (map label words)
+        ∙ ap (λ n. with_inputs k (with_names (with_name k.names word) words) (n ∷ map (signal_number (with_names (with_name k.names word) words)) words) (label word ∷ map label words)) (sym (number_stays k.names words word))))
 
 -- what is known with further outputs
 abbrev pub with_outputs : Known → List (List ℕ) → List OutRef → List (List ℕ) → Known
@@ -238,21 +238,21 @@ outputs_taken k next (word ∷ words) e = by (with_output k word) refl e (λ fir
 
 -- the numbers of names that have no fault, and the names with them
 abbrev pub numbers_of : List (List ℕ) → List (List ℕ) → List ℕ × List (List ℕ)
-numbers_of names words = (map (number_of (with_names names words)) words, with_names names words)
+numbers_of names words = (map (signal_number (with_names names words)) words, with_names names words)
 
 pub numbered_is : (names words : List (List ℕ)) (numbers : List ℕ × List (List ℕ)) → numbered names words ≡ Ok numbers → numbers ≡ numbers_of names words
 numbered_is names [] numbers e = cc
 numbered_is names (word ∷ words) numbers e = by (named names word) refl e (λ after others f. numbered_is after words others f)
   where
-    join : (after : List (List ℕ)) (r : Result (List ℕ × List (List ℕ)) BlifFault) → numbered after words ≡ r → after ≡ with_name names word → (r >>= λ others. Ok (number_of names word ∷ others.0, others.1)) ≡ Ok numbers → ((after : List (List ℕ)) (others : List ℕ × List (List ℕ)) → numbered after words ≡ Ok others → others ≡ numbers_of after words) → numbers ≡ numbers_of names (word ∷ words)
+    join : (after : List (List ℕ)) (r : Result (List ℕ × List (List ℕ)) BlifFault) → numbered after words ≡ r → after ≡ with_name names word → (r >>= λ others. Ok (signal_number names word ∷ others.0, others.1)) ≡ Ok numbers → ((after : List (List ℕ)) (others : List ℕ × List (List ℕ)) → numbered after words ≡ Ok others → others ≡ numbers_of after words) → numbers ≡ numbers_of names (word ∷ words)
     join after (Err fault) i a e on = absurd cc
     join after (Ok others) i a e on =
-        let same : numbers ≡ (number_of names word ∷ others.0, others.1) = cc in
+        let same : numbers ≡ (signal_number names word ∷ others.0, others.1) = cc in
         let rest : others ≡ numbers_of (with_name names word) words = on after others i ∙ ap (λ ns. numbers_of ns words) a in
-        same ∙ (ap (λ (o : List ℕ × List (List ℕ)). (number_of names word ∷ o.0, o.1)) rest
-        ∙ ap (λ n. (n ∷ map (number_of (with_names (with_name names word) words)) words, with_names (with_name names word) words)) (sym (number_stays names words word)))
+        same ∙ (ap (λ (o : List ℕ × List (List ℕ)). (signal_number names word ∷ o.0, o.1)) rest
+        ∙ ap (λ n. (n ∷ map (signal_number (with_names (with_name names word) words)) words, with_names (with_name names word) words)) (sym (number_stays names words word)))
 
-    by : (r : Result (List (List ℕ)) BlifFault) → named names word ≡ r → (r >>= λ after. numbered after words >>= λ others. Ok (number_of names word ∷ others.0, others.1)) ≡ Ok numbers → ((after : List (List ℕ)) (others : List ℕ × List (List ℕ)) → numbered after words ≡ Ok others → others ≡ numbers_of after words) → numbers ≡ numbers_of names (word ∷ words)
+    by : (r : Result (List (List ℕ)) BlifFault) → named names word ≡ r → (r >>= λ after. numbered after words >>= λ others. Ok (signal_number names word ∷ others.0, others.1)) ≡ Ok numbers → ((after : List (List ℕ)) (others : List ℕ × List (List ℕ)) → numbered after words ≡ Ok others → others ≡ numbers_of after words) → numbers ≡ numbers_of names (word ∷ words)
     by (Err fault) i e on = absurd cc
     by (Ok after) i e on = join after (numbered after words) refl (named_is names after word i) e on
 
@@ -271,11 +271,11 @@ abbrev empty_by : ℕ → List ℕ → Equation
 empty_by sig ins = record { sig = sig; cover = record { ins = ins; rows = []; phase = true } }
 
 -- a cover of some words, by the numbers of its words
-pub empty_is : (names words : List (List ℕ)) → 0 < length words → empty_cover (map (number_of names) words) ≡ equation_of names (cover_text words [])
+pub empty_is : (names words : List (List ℕ)) → 0 < length words → empty_cover (map (signal_number names) words) ≡ equation_of names (cover_text words [])
 empty_is names words some =
-    let size : length (map (number_of names) words) ≡ length words = length-map words (number_of names) in
-    let at : get_or (map (number_of names) words) (length words - 1) 0 ≡ number_of names (get_or words (length words - 1) []) = get_or-map (number_of names) words (length words - 1) [] 0 (omega arith) in
-    let front : take (length words - 1) (map (number_of names) words) ≡ map (number_of names) (take (length words - 1) words) = take-map (number_of names) (length words - 1) words in
-    ap (λ n. empty_by (get_or (map (number_of names) words) (n - 1) 0) (take (n - 1) (map (number_of names) words))) size
-    ∙ (ap (λ sig. empty_by sig (take (length words - 1) (map (number_of names) words))) at
-    ∙ ap (λ ins. empty_by (number_of names (get_or words (length words - 1) [])) ins) front)
+    let size : length (map (signal_number names) words) ≡ length words = length-map words (signal_number names) in
+    let at : get_or (map (signal_number names) words) (length words - 1) 0 ≡ signal_number names (get_or words (length words - 1) []) = get_or-map (signal_number names) words (length words - 1) [] 0 (omega arith) in
+    let front : take (length words - 1) (map (signal_number names) words) ≡ map (signal_number names) (take (length words - 1) words) = take-map (signal_number names) (length words - 1) words in
+    ap (λ n. empty_by (get_or (map (signal_number names) words) (n - 1) 0) (take (n - 1) (map (signal_number names) words))) size
+    ∙ (ap (λ sig. empty_by sig (take (length words - 1) (map (signal_number names) words))) at
+    ∙ ap (λ ins. empty_by (signal_number names (get_or words (length words - 1) [])) ins) front)

@@ -1,10 +1,13 @@
 -- Inputs and their marks.
-use Rattle.std.proofs.Common.{◌≡◌, ℕ, ◌<◌, ◌+◌, Bool, true, false, ◌||◌, cond, eqb, List, [], ◌∷◌, ◌++◌, length, set, arith, refl, sym, ap, ◌∙◌, inl, inr, ◌⊎◌}
+use Rattle.std.proofs.Common.{◌≡◌, ℕ, ◌<◌, ◌+◌, Bool, true, false, ◌||◌, cond, eqb, List, [], ◌∷◌, ◌++◌, Ok, Err, length, set, arith, refl, sym, ap, ◌∙◌, inl, inr, ◌⊎◌}
 use Rattle.std.specs.List.{list_any, count_by}
 use Rattle.std.proofs.lemmas.Bool.{eq-eqb, ne_eqb, cases_eq}
 use Rattle.std.proofs.lemmas.List.{length-set, get_or-set_same, get_or-set_other, length-append}
 use Rattle.std.proofs.lemmas.List.Sums.{count_by-le-length, sum_by-set}
-use Rattle.pim_blif.specs.InputMarks.{is_marked, AreMarked}
+use Rattle.pim_blif.specs.declared.fault.BlifFault.TheVariants as faults
+use Rattle.pim_blif.specs.Signals.{signal_number}
+use Rattle.pim_blif.specs.inner.InputMarks.{is_marked, AreMarked}
+use Rattle.pim_blif.specs.inner.Judging.{Known, named, with_input}
 
 -- one more mark counts as one
 counted : (marks : List Bool) (sig : ℕ) → sig < length marks → is_marked marks sig ≡ false → count_by (λ mark. mark) (set marks sig true) ≡ count_by (λ mark. mark) marks + 1
@@ -61,3 +64,10 @@ marks_same inputs marks more are same count = record { same = λ s. same s ∙ a
 -- nothing is marked at first
 pub marks_none : AreMarked [] []
 marks_none = record { same = λ s. refl; once = refl }
+
+-- an input whose signal is marked already is one twice
+pub twice_is : (line : ℕ) (k : Known) (marks : List Bool) (name : List ℕ) (after : List (List ℕ)) → AreMarked k.draft.inputs marks → named k.names name ≡ Ok after → is_marked marks (signal_number k.names name) ≡ true → with_input line k name ≡ Err (faults.TwiceInput line)
+unfolding with_input
+twice_is line k marks name after are taken marked =
+    let twice : list_any (λ i. eqb i (signal_number k.names name)) k.draft.inputs ≡ true = sym (are.same (signal_number k.names name)) ∙ marked in
+    rw (taken, twice) refl

@@ -1,15 +1,16 @@
 -- The numbers of names, as places in a list of slices, and the names once one is added.
-use Rattle.std.proofs.Common.{◌≡◌, ℕ, suc, ◌+◌, ◌<◌, ◌≤◌, Bool, true, false, ◌||◌, not, cond, List, [], ◌∷◌, ◌++◌, length, Some, None, refl, ap, sym, ◌∙◌, arith, subst, get_or, eqb, ltb, length-append}
+use Rattle.std.proofs.Common.{◌≡◌, ℕ, suc, ◌+◌, ◌<◌, ◌≤◌, Bool, true, false, ◌||◌, not, cond, List, [], ◌∷◌, ◌++◌, length, refl, ap, sym, ◌∙◌, arith, subst, get_or, eqb, ltb, length-append}
 use Rattle.std.specs.Borrow.{Bor}
-use Rattle.std.specs.List.{All, list_any, position, position_or_len}
+use Rattle.std.specs.List.{All, list_any, position_or_len}
 use Rattle.std.specs.Str.{bytes_eq}
 use Rattle.std.proofs.lemmas.Bool.Decides.{nat_tests}
 use Rattle.std.proofs.lemmas.List.{map-append, length-map, get_or-map}
 use Rattle.std.proofs.lemmas.List.Elements.{All-same, All-push}
 use Rattle.indexmap.specs.IndexSet.{insert_key}
 use Rattle.pim_net.specs.Labels.{IsName}
-use Rattle.pim_blif.specs.Reading.{texts}
-use Rattle.pim_blif.specs.Signals.{number_of, is_known, with_name}
+use Rattle.pim_net.specs.declared.limits.TheConstants.{MAX_SIGNALS}
+use Rattle.pim_blif.specs.inner.Reading.{texts}
+use Rattle.pim_blif.specs.Signals.{signal_number, is_known, with_name}
 
 eqb_same : (a b : ℕ) → eqb a b ≡ eqb b a
 eqb_same a b = grind (arith, nat_tests)
@@ -22,10 +23,10 @@ bytes_same (x ∷ xs) [] = refl
 bytes_same (x ∷ xs) (y ∷ ys) = rw (eqb_same x y, bytes_same xs ys) refl
 
 -- the number of a name is the first place that holds it
-pub number_of_place : (keys : List (Bor (List ℕ))) (name : List ℕ) → number_of (texts keys) name ≡ position_or_len (λ (key : Bor (List ℕ)). bytes_eq name key.now) keys
+pub number_of_place : (keys : List (Bor (List ℕ))) (name : List ℕ) → signal_number (texts keys) name ≡ position_or_len (λ (key : Bor (List ℕ)). bytes_eq name key.now) keys
 number_of_place [] name = refl
 number_of_place (key ∷ keys) name =
-    rw (bytes_same key.now name) (elim (bytes_eq name key.now) as (λ v. cond v 0 (suc (number_of (texts keys) name)) ≡ cond (not v) (1 + position_or_len (λ (key : Bor (List ℕ)). bytes_eq name key.now) keys) 0) [
+    rw (bytes_same key.now name) (elim (bytes_eq name key.now) as (λ v. cond v 0 (suc (signal_number (texts keys) name)) ≡ cond (not v) (1 + position_or_len (λ (key : Bor (List ℕ)). bytes_eq name key.now) keys) 0) [
       | true ↦ refl
       | false ↦ omega (arith, number_of_place keys name)
     ])
@@ -34,9 +35,9 @@ number_of_place (key ∷ keys) name =
 pub is_known_any : (keys : List (Bor (List ℕ))) (name : List ℕ) → is_known (texts keys) name ≡ list_any (λ (key : Bor (List ℕ)). bytes_eq name key.now) keys
 is_known_any [] name = refl
 is_known_any (key ∷ keys) name =
-    rw (bytes_same key.now name) (elim (bytes_eq name key.now) as (λ v. ltb (cond v 0 (suc (number_of (texts keys) name))) (suc (length (texts keys))) ≡ (v || list_any (λ (key : Bor (List ℕ)). bytes_eq name key.now) keys)) [
+    rw (bytes_same key.now name) (elim (bytes_eq name key.now) as (λ v. ltb (cond v 0 (suc (signal_number (texts keys) name))) (suc (length (texts keys))) ≡ (v || list_any (λ (key : Bor (List ℕ)). bytes_eq name key.now) keys)) [
       | true ↦ grind (arith, nat_tests)
-      | false ↦ sym (later (number_of (texts keys) name) (length (texts keys))) ∙ is_known_any keys name
+      | false ↦ sym (later (signal_number (texts keys) name) (length (texts keys))) ∙ is_known_any keys name
     ])
   where
     later : (m n : ℕ) → ltb m n ≡ ltb (suc m) (suc n)
@@ -50,20 +51,14 @@ inserted keys name =
       | false ↦ map-append (λ (slice : Bor (List ℕ)). slice.now) keys (name ∷ [])
     ])
 
--- the number of a name that is known, as the first place that holds it
-pub known_place : (keys : List (Bor (List ℕ))) (name : List ℕ) → position (λ (key : Bor (List ℕ)). bytes_eq name key.now) keys ≡ cond (is_known (texts keys) name) (Some (number_of (texts keys) name)) None
-known_place keys name =
-    let count : length (texts keys) ≡ length keys = length-map keys (λ (slice : Bor (List ℕ)). slice.now) in
-    rw (number_of_place keys name, count) refl
-
 -- names that are labels, and not too many, stay so once one is added
-pub kept : (names after : List (List ℕ)) (name : List ℕ) → after ≡ with_name names name → All IsName names → length names ≤ 1048576 → IsName name → number_of names name < 1048576 → All IsName after × (length after ≤ 1048576)
+pub kept : (names after : List (List ℕ)) (name : List ℕ) → after ≡ with_name names name → All IsName names → length names ≤ MAX_SIGNALS → IsName name → signal_number names name < MAX_SIGNALS → All IsName after × (length after ≤ MAX_SIGNALS)
 kept names after name e labels few label room = by (is_known names name) refl e
   where
-    by : (b : Bool) → is_known names name ≡ b → after ≡ cond b names (names ++ name ∷ []) → All IsName after × (length after ≤ 1048576)
+    by : (b : Bool) → is_known names name ≡ b → after ≡ cond b names (names ++ name ∷ []) → All IsName after × (length after ≤ MAX_SIGNALS)
     by true known same = (All-same IsName after names same labels, omega (arith, ap length same))
     by false new same =
-        let count : length names ≤ number_of names name = grind (arith, nat_tests) in
+        let count : length names ≤ signal_number names name = grind (arith, nat_tests) in
         (All-same IsName after (names ++ name ∷ []) same (All-push IsName names name labels label), omega (arith, ap length same, length-append names (name ∷ [])))
 
 -- each of these slices is a label

@@ -2,7 +2,7 @@
 use Rattle.std.proofs.Common.{◌≡◌, ℕ, ◌+◌, ◌<◌, ◌≤◌, true, false, List, [], ◌∷◌, ◌++◌, length, refl, arith, cond, length-append}
 use Rattle.pim_io.specs.Lines.{is_newline, lines_after, lines}
 use Rattle.pim_blif.specs.Statements.{Statement, stated}
-use Rattle.pim_blif.specs.Reading.{room}
+use Rattle.pim_blif.specs.inner.Reading.{room}
 
 room_after : (number start : ℕ) (text bytes : List ℕ) → room (lines_after number start text bytes) ≤ length text + length bytes + 1
 room_after number start [] [] = omega arith

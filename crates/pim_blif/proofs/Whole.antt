@@ -12,11 +12,11 @@ use Rattle.pim_blif.specs.declared.fault.BlifFault.TheVariants as faults
 use Rattle.pim_blif.specs.Statements.{Statement}
 use Rattle.pim_blif.specs.Directives.{directive, arguments, is_end}
 use Rattle.pim_blif.specs.Signals.{with_names}
-use Rattle.pim_blif.specs.Covers.{CoverText, covers_of, ended_covers, open_cover}
+use Rattle.pim_blif.specs.Covers.{CoverText, covers_of, open_cover}
 use Rattle.pim_blif.specs.Netlists.{as_inputs, as_outputs, as_signals, names_of, inputs_of, outputs_of, netlist_of, draft_with}
-use Rattle.pim_blif.specs.Judging.{Known, known_from, known_after, judged, without_cover}
-use Rattle.pim_blif.specs.Files.{first_fault, judged_net, outcome, unless_faulty, netlist_by}
-use Rattle.pim_blif.specs.Steps.{◌>>=◌}
+use Rattle.pim_blif.specs.inner.Judging.{Known, known_from, known_after, judged, without_cover, ended_covers, outcome}
+use Rattle.pim_blif.specs.Files.{first_fault, judged_net, unless_faulty, netlist_by}
+use Rattle.pim_io.specs.Readings.{◌>>=◌}
 use Rattle.pim_blif.proofs.Growing.{with_names-append}
 use Rattle.pim_blif.proofs.Faulty.{fault_same}
 use Rattle.pim_blif.proofs.CoverTexts.{covers_onto}

@@ -1,16 +1,13 @@
 -- The covers of a file: each `.names` statement begins one, and the statements up to the next that begins with a dot are its
 -- rows (BLIF 1992, "Logic Gates").
 use Rattle.std.specs.Prelude.{ℕ, ◌-◌, List, [], ◌∷◌, ◌++◌, Bool, true, length, take, take_while, map, slice_index_or, Option, Some, None, is_none, option_map}
-use Rattle.std.specs.Option.{option_to_list}
 use Rattle.std.specs.Str.{bytes_eq}
 use Rattle.pim_net.specs.Covers.{CoverView}
 use Rattle.pim_net.specs.declared.parts.Equation.{Equation}
 use Rattle.pim_blif.specs.Statements.{Statement}
-use Rattle.pim_blif.specs.Directives.{directive, arguments}
-use Rattle.pim_blif.specs.Signals.{number_of}
+use Rattle.pim_blif.specs.Directives.{Directive, Names, directive, arguments}
+use Rattle.pim_blif.specs.Signals.{signal_number}
 use Rattle.pim_blif.specs.Rows.{cells_of, pattern_of, output_of}
-use Rattle.pim_blif.specs.declared.directive.Directive.{Directive}
-use Rattle.pim_blif.specs.declared.directive.Directive.TheVariants.{Names}
 
 -- a `.names` statement and its rows: the names of its columns, the name that it drives, and the words of each row
 pub record CoverText : Type 0 where
@@ -64,17 +61,7 @@ abbrev pub open_cover : List Statement → Option CoverText
 open_cover [] = None
 open_cover (s ∷ before) = open_behind (directive s) s (open_cover before)
 
--- the covers that were ended by a directive
-abbrev pub ended_behind : Option Directive → Option CoverText → List CoverText → List CoverText
-ended_behind None cover covers = covers
-ended_behind (Some d) cover covers = covers ++ option_to_list cover
-
--- the covers of these statements, the latest of which comes first, without the one that is open
-abbrev pub ended_covers : List Statement → List CoverText
-ended_covers [] = []
-ended_covers (s ∷ before) = ended_behind (directive s) (open_cover before) (ended_covers before)
-
--- the output character of a row says that the cover is true where the row holds
+-- the output character of a row tells that the cover is true where the row holds
 abbrev pub is_one : List (List ℕ) → Bool
 is_one words = bytes_eq (output_of words) (49 ∷ [])
 
@@ -86,11 +73,11 @@ phase_of (words ∷ rows) = is_one words
 -- the cover of signals, where names have these numbers
 abbrev pub cover_of : List (List ℕ) → CoverText → CoverView
 cover_of names cover = record {
-  ins = map (number_of names) cover.columns;
+  ins = map (signal_number names) cover.columns;
   rows = map (λ words. cells_of (pattern_of words)) cover.rows;
   phase = phase_of cover.rows;
 }
 
 -- the equation of a cover
 abbrev pub equation_of : List (List ℕ) → CoverText → Equation
-equation_of names cover = record { sig = number_of names cover.driven; cover = cover_of names cover }
+equation_of names cover = record { sig = signal_number names cover.driven; cover = cover_of names cover }

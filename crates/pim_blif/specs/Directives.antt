@@ -1,35 +1,37 @@
 -- What a statement begins with: a directive, or the words of a row. The directives are those of Berkeley Logic Interchange
 -- Format (BLIF), University of California, Berkeley, 1992, "Models", "Logic Gates" and "Delay Constraints"; which of
 -- them are read, passed over or unsupported is this project's profile.
-use Rattle.std.specs.Prelude.{ℕ, ◌==◌, ◌||◌, ◌&&◌, nat_eq, List, [], ◌∷◌, Bool, true, false, if◌then◌else◌, codes, drop, slice_index_or, Option, Some, None}
-use Rattle.std.specs.List.{starts_with}
+use Rattle.std.specs.Prelude.{ℕ, ◌==◌, List, [], ◌∷◌, Bool, true, false, if◌then◌else◌, codes, drop, slice_index_or, Option, Some, None}
+use Rattle.std.specs.List.{list_any}
 use Rattle.std.specs.Str.{bytes_eq}
 use Rattle.pim_blif.specs.Statements.{Statement}
-use Rattle.pim_blif.specs.declared.directive.Directive.{Directive}
-use Rattle.pim_blif.specs.declared.directive.Directive.TheVariants.{Model, Inputs, Outputs, Names, End, PassedOver, Unsupported}
 
 -- the byte that a directive begins with
 abbrev pub is_dot : ℕ → Bool
 is_dot b = b == 46
 
--- the names of loads and times that are given for one signal, and with `default_` before them for every signal
-abbrev pub is_load : List ℕ → Bool
-is_load name =
-    bytes_eq name (codes "input_arrival") || bytes_eq name (codes "output_required") || bytes_eq name (codes "input_drive")
-    || bytes_eq name (codes "output_load") || bytes_eq name (codes "max_input_load")
+-- what a statement that begins with a dot is: it begins or ends the model, names inputs or outputs, or begins a cover; or it
+-- tells of area, delay or load, and is passed over; or it is not supported
+pub data Directive : Type 0 where
+  Model : Directive
+  Inputs : Directive
+  Outputs : Directive
+  Names : Directive
+  End : Directive
+  PassedOver : Directive
+  Unsupported : Directive
 
--- the names of a gate's area and delay, and of what its wires load
-abbrev pub is_wire : List ℕ → Bool
-is_wire name =
-    bytes_eq name (codes "area") || bytes_eq name (codes "delay") || bytes_eq name (codes "wire_load_slope") || bytes_eq name (codes "wire")
+-- the names of the directives that are passed over: they tell nothing of what a netlist computes
+abbrev pub passed_over : List (List ℕ)
+passed_over =
+    codes "area" ∷ codes "delay" ∷ codes "wire_load_slope" ∷ codes "wire"
+    ∷ codes "input_arrival" ∷ codes "default_input_arrival" ∷ codes "output_required" ∷ codes "default_output_required"
+    ∷ codes "input_drive" ∷ codes "default_input_drive" ∷ codes "output_load" ∷ codes "default_output_load"
+    ∷ codes "max_input_load" ∷ codes "default_max_input_load" ∷ []
 
--- a load or a time that is given for every signal
-abbrev pub is_default_load : List ℕ → Bool
-is_default_load name = starts_with nat_eq name (codes "default_") && is_load (drop 8 name)
-
--- the names of the directives that say nothing of what a netlist computes
+-- whether a directive of this name is passed over
 abbrev pub is_passed_over : List ℕ → Bool
-is_passed_over name = is_wire name || is_load name || is_default_load name
+is_passed_over name = list_any (bytes_eq name) passed_over
 
 -- the directive of a name, which stands behind the dot
 unfoldable pub directive_named : List ℕ → Directive

@@ -1,6 +1,6 @@
 -- The netlist of a BLIF file (BLIF 1992, "Models" and "Logic Gates", in this project's profile): each statement is judged
 -- from the statements before it alone, and the first faulty one gives the fault; without one, the statements make a netlist.
-use Rattle.std.specs.Prelude.{ℕ, List, [], ◌∷◌, map, Option, Some, None, Result, Ok, Err, if◌then◌else◌}
+use Rattle.std.specs.Prelude.{ℕ, List, [], ◌∷◌, map, Option, Some, None, Result, Ok, Err}
 use Rattle.std.specs.Option.{option_or}
 use Rattle.pim_io.specs.Names.{label}
 use Rattle.pim_net.specs.Netlist.{DraftView}
@@ -10,7 +10,6 @@ use Rattle.pim_blif.specs.declared.fault.BlifFault.{BlifFault}
 use Rattle.pim_blif.specs.declared.fault.BlifFault.TheVariants as faults
 use Rattle.pim_blif.specs.Statements.{Statement, statements}
 use Rattle.pim_blif.specs.StatementFaults.{fault_of}
-use Rattle.pim_blif.specs.Judging.{Known, without_cover}
 use Rattle.pim_blif.specs.Netlists.{names_of, netlist_of}
 
 -- the fault of the first faulty statement, where these stand before, the latest first
@@ -31,10 +30,6 @@ with_fault names draft (Some fault) = Err (faults.Net fault (map label names))
 -- a netlist that was read whole, where it is well-formed
 unfoldable pub judged_net : List (List ℕ) → DraftView → Result DraftView BlifFault
 judged_net names draft = with_fault names draft (net_fault draft)
-
--- the netlist of all that is known, where there was a statement; the cover that is open ends with the file
-abbrev pub outcome : Known → Result DraftView BlifFault
-outcome k = if k.started then judged_net k.names (without_cover k).draft else Err (faults.Syntax 1)
 
 -- the netlist of statements that have this fault, or none
 abbrev pub unless_faulty : List Statement → Option BlifFault → Result DraftView BlifFault

@@ -1,13 +1,9 @@
 pub mod Covers
 pub mod Directives
 pub mod Files
-pub mod InputMarks
-pub mod Judging
 pub mod Netlists
-pub mod Readers
-pub mod Reading
 pub mod Rows
 pub mod Signals
 pub mod StatementFaults
 pub mod Statements
-pub mod Steps
+pub mod inner

@@ -5,11 +5,9 @@ use Rattle.pim_io.specs.Names.{label}
 use Rattle.pim_net.specs.Netlist.{DraftView}
 use Rattle.pim_net.specs.declared.parts.OutRef.{OutRef}
 use Rattle.pim_blif.specs.Statements.{Statement}
-use Rattle.pim_blif.specs.Directives.{directive, arguments}
-use Rattle.pim_blif.specs.Signals.{number_of, distinct}
+use Rattle.pim_blif.specs.Directives.{Directive, Inputs, Outputs, Names, directive, arguments}
+use Rattle.pim_blif.specs.Signals.{signal_number, distinct}
 use Rattle.pim_blif.specs.Covers.{CoverText, covers_of, equation_of}
-use Rattle.pim_blif.specs.declared.directive.Directive.{Directive}
-use Rattle.pim_blif.specs.declared.directive.Directive.TheVariants.{Inputs, Outputs, Names}
 
 -- the words of `.inputs`
 abbrev pub as_inputs : Option Directive → List (List ℕ) → List (List ℕ)
@@ -42,12 +40,12 @@ names_of statements = distinct (flat_map (λ s. as_signals (directive s) (argume
 
 -- the output of a name
 abbrev pub output_ref : List (List ℕ) → List ℕ → OutRef
-output_ref names name = record { sig = number_of names name; neg = false }
+output_ref names name = record { sig = signal_number names name; neg = false }
 
 -- the netlist of inputs, outputs and covers, where names have these numbers
 abbrev pub draft_with : List (List ℕ) → List (List ℕ) → List (List ℕ) → List CoverText → DraftView
 draft_with names inputs outputs covers = record {
-  inputs = map (number_of names) inputs;
+  inputs = map (signal_number names) inputs;
   input_labels = map label inputs;
   equations = map (equation_of names) covers;
   outputs = map (output_ref names) outputs;

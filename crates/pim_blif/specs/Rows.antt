@@ -8,7 +8,7 @@ use Rattle.pim_net.specs.declared.cover.Bit3.{Bit3}
 use Rattle.pim_net.specs.declared.cover.Bit3.TheVariants.{Zero, One, Any}
 use Rattle.pim_blif.specs.declared.fault.BlifFault.{BlifFault}
 use Rattle.pim_blif.specs.declared.fault.BlifFault.TheVariants as faults
-use Rattle.pim_blif.specs.Steps.{◌>>=◌}
+use Rattle.pim_io.specs.Readings.{◌>>=◌}
 
 -- what a row asks of each column, and the value of the cover where it holds
 pub record RowView : Type 0 where

@@ -3,13 +3,13 @@ use Rattle.std.specs.Prelude.{ℕ, suc, List, [], ◌∷◌, ◌++◌, Bool, if�
 use Rattle.std.specs.Str.{bytes_eq}
 
 -- the number of a name: its place among the names, and for a new one the place behind them
-abbrev pub number_of : List (List ℕ) → List ℕ → ℕ
-number_of [] name = 0
-number_of (known ∷ names) name = if bytes_eq known name then 0 else suc (number_of names name)
+abbrev pub signal_number : List (List ℕ) → List ℕ → ℕ
+signal_number [] name = 0
+signal_number (known ∷ names) name = if bytes_eq known name then 0 else suc (signal_number names name)
 
 -- whether a name is among the names
 abbrev pub is_known : List (List ℕ) → List ℕ → Bool
-is_known names name = nat_lt (number_of names name) (length names)
+is_known names name = nat_lt (signal_number names name) (length names)
 
 -- the names, with one that is appended where it is new
 abbrev pub with_name : List (List ℕ) → List ℕ → List (List ℕ)

@@ -6,31 +6,31 @@ use Rattle.std.specs.Option.{option_or}
 use Rattle.std.specs.Result.{result_err}
 use Rattle.std.specs.Str.{bytes_eq}
 use Rattle.pim_io.specs.Names.{label}
+use Rattle.pim_io.specs.declared.limits.TheConstants.{MAX_NAME}
+use Rattle.pim_net.specs.declared.limits.TheConstants.{MAX_OUTPUTS, MAX_SIGNALS}
 use Rattle.pim_net.specs.declared.kind.Kind.TheVariants as kinds
-use Rattle.pim_blif.specs.declared.directive.Directive.{Directive}
-use Rattle.pim_blif.specs.declared.directive.Directive.TheVariants.{Model, Inputs, Outputs, Names, End, PassedOver, Unsupported}
 use Rattle.pim_blif.specs.declared.fault.BlifFault.{BlifFault}
 use Rattle.pim_blif.specs.declared.fault.BlifFault.TheVariants as faults
 use Rattle.pim_blif.specs.Statements.{Statement}
-use Rattle.pim_blif.specs.Directives.{directive, arguments, first_word, is_end}
+use Rattle.pim_blif.specs.Directives.{Directive, Model, Inputs, Outputs, Names, End, PassedOver, Unsupported, directive, arguments, first_word, is_end}
 use Rattle.pim_blif.specs.Signals.{is_known, with_name}
 use Rattle.pim_blif.specs.Rows.{row_at}
 use Rattle.pim_blif.specs.Covers.{CoverText, open_cover, is_one}
 use Rattle.pim_blif.specs.Netlists.{names_of, inputs_of, outputs_of}
 
--- this fault, where a test says so
+-- this fault, where a test passes
 abbrev pub fault_if : Bool → BlifFault → Option BlifFault
 fault_if test fault = if test then Some fault else None
 
 -- a directive that is not supported, or not where it stands, told by the label of its first 4,096 bytes
 abbrev pub unsupported : ℕ → List ℕ → BlifFault
-unsupported line word = faults.Unsupported line (label (take 4096 word))
+unsupported line word = faults.Unsupported line (label (take MAX_NAME word))
 
 -- a name has at most 4,096 bytes, and there are at most 1,048,576 signals
 abbrev pub name_fault : List (List ℕ) → List ℕ → Option BlifFault
 name_fault names name =
-    option_or (fault_if (nat_lt 4096 (length name)) (faults.TooLarge kinds.Name))
-    (fault_if (not (is_known names name) && nat_le 1048576 (length names)) (faults.TooLarge kinds.Signals))
+    option_or (fault_if (nat_lt MAX_NAME (length name)) (faults.TooLarge kinds.Name))
+    (fault_if (not (is_known names name) && nat_le MAX_SIGNALS (length names)) (faults.TooLarge kinds.Signals))
 
 -- whether a name is one of these
 abbrev pub is_among : List (List ℕ) → List ℕ → Bool
@@ -47,7 +47,7 @@ inputs_fault line names inputs (word ∷ words) =
 abbrev pub outputs_fault : List (List ℕ) → ℕ → List (List ℕ) → Option BlifFault
 outputs_fault names count [] = None
 outputs_fault names count (word ∷ words) =
-    option_or (option_or (name_fault names word) (fault_if (nat_le 1048576 count) (faults.TooLarge kinds.Outputs)))
+    option_or (option_or (name_fault names word) (fault_if (nat_le MAX_OUTPUTS count) (faults.TooLarge kinds.Outputs)))
     (outputs_fault (with_name names word) (count + 1) words)
 
 -- words from left to right as names of a cover

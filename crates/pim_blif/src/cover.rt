@@ -1,28 +1,26 @@
-ghost use Rattle.std.specs.Prelude.{◌≡◌, ◌+◌, ◌<◌, ◌^◌, false, All, length, IfOk};
-ghost use Rattle.pim_blif.specs.Reading.{texts};
-ghost use Rattle.pim_blif.specs.Rows.{is_mixed};
-ghost use Rattle.pim_blif.specs.Judging.{empty_cover, first_value, with_row_at};
-ghost use Rattle.pim_blif.specs.Steps.{Gives};
+ghost use Rattle.std.specs.Prelude.{◌≡◌, ◌+◌, ◌<◌, ◌≤◌, nat_lt, is_some, All, length, IfOk, IfSome};
+ghost use Rattle.pim_io.specs.Readings.{Gives};
+ghost use Rattle.pim_net.specs.declared.limits.TheConstants.{MAX_COLUMNS, MAX_ROWS, MAX_SIGNALS};
+ghost use Rattle.pim_blif.specs.inner.Judging.{empty_cover, first_value, with_row_at};
 
 use crate::fault::BlifFault;
 use crate::row::read_row;
-use pim_io::NoMemory;
+use crate::word::Word;
 use pim_net::{Bit3, Cover, Equation};
 use std::alloc::Global;
 
-/// The equation of a cover without rows, of which the last of these signals is driven by the others. Linear in the signals.
-pub(crate) fn empty_cover(alloc: Global, signals: &[u32]) -> Result<Equation, NoMemory>
-    requires some { 0 < length signals.now }
-    requires few { length signals.now < 2 ^ 28 }
-    requires below { All (λ s. s < 1048576) signals.now }
-    ensures exact { IfOk result (λ e. e ≡ empty_cover signals.now) }
-    ensures below { IfOk result (λ e. e.sig < 1048576) }
+/// The equation of a cover without rows, of which the last of these signals is driven by the others, if there is one. It
+/// keeps the list that it is given, and takes no memory.
+pub(crate) fn empty_cover(alloc: Global, mut signals: Vec<u32>) -> Option<Equation>
+    requires few { length signals.items ≤ MAX_COLUMNS }
+    requires below { All (λ s. s < MAX_SIGNALS) signals.items }
+    ensures some { is_some result ≡ nat_lt 0 (length signals.items) }
+    ensures exact { IfSome result (λ e. e ≡ empty_cover signals.items) }
+    ensures below { IfSome result (λ e. e.sig < MAX_SIGNALS) }
 {
-    let last = signals.len() - 1;
-    Ok(Equation {
-        sig: signals[last],
-        cover: Cover::new(alloc, &signals[..last], true)?,
-    })
+    let sig = signals.pop()?;
+    let cover = Cover::from_vec(alloc, signals, true);
+    Some(Equation { sig, cover })
 }
 
 /// The value of a cover's first row, if there is one.
@@ -36,36 +34,24 @@ fn first_value(cover: &Cover) -> Option<bool>
     }
 }
 
-/// A cover for a further row of this value, which is that of its first row, if it has one: the first row tells whether the
-/// cover is true or false where a row holds. Linear in the columns, and constant where there is a row.
-fn with_phase(alloc: Global, cover: Cover, value: bool) -> Result<Cover, NoMemory>
-    requires { is_mixed (first_value cover) value ≡ false }
-    ensures { IfOk result (λ c. c ≡ record cover { phase = value }) }
-{
-    if cover.row_count() != 0 {
-        return Ok(cover);
-    }
-    Cover::new(alloc, cover.ins(), value)
-}
-
-/// An equation with the row of a line, which is read into `cells`. Linear in the row, and for a first row in the columns.
-#[tactic(auto, unfolding(crate::specs::Judging::with_row_at))]
+/// An equation with the row of a line, which is read into `cells`. Linear in the row.
+#[tactic(auto, unfolding(crate::specs::inner::Judging::with_row_at))]
 pub(crate) fn add_row(
-    alloc: Global,
     line: u32,
-    words: &[&[u8]],
+    words: &[Word],
     equation: Equation,
     cells: &mut Vec<Bit3>,
 ) -> Result<Equation, BlifFault>
-    requires { length equation.cover.rows < 2 ^ 28 }
-    ensures exact { Gives (λ e. e) result (with_row_at line equation (texts words.now)) }
+    requires { length equation.cover.rows < MAX_ROWS }
+    ensures exact { Gives BlifFault.NoMemory (λ e. e) result (with_row_at line equation words.now) }
     ensures same { IfOk result (λ e. e.sig ≡ equation.sig) }
     ensures rows { IfOk result (λ e. length e.cover.rows ≡ length equation.cover.rows + 1) }
 {
-    let Equation { sig, cover } = equation;
+    let Equation { sig, mut cover } = equation;
     let first = first_value(&cover);
     let value = read_row(line, cover.ins().len(), first, words, cells)?;
-    let mut cover = with_phase(alloc, cover, value)?;
+    // The first row tells whether the cover is true or false where a row holds, and the others tell the same.
+    cover.set_phase(value);
     cover.add_row(cells)?;
     Ok(Equation { sig, cover })
 }

@@ -1,5 +1,6 @@
-ghost use Rattle.std.specs.Prelude.{◌≡◌};
-ghost use Rattle.pim_blif.specs.Directives.{is_wire, is_load, is_default_load, is_passed_over, directive_named, directive_of};
+ghost use Rattle.std.specs.Prelude.{◌≡◌, option_map};
+ghost use Rattle.pim_blif.specs.Directives.{is_passed_over, directive_named, directive_of};
+ghost use Rattle.pim_blif.specs.inner.Found.{directive_view};
 
 /// What a statement that begins with a dot is (BLIF 1992, "Models", "Logic Gates" and "Delay Constraints").
 #[derive(Clone, Copy, Debug, PartialEq, Eq)]
@@ -14,7 +15,7 @@ pub(crate) enum Directive {
     Names,
     /// `.end` ends the model.
     End,
-    /// A statement on area, delay or load, which says nothing of what a netlist computes.
+    /// A statement on area, delay or load, which tells nothing of what a netlist computes.
     PassedOver,
     /// Any other word that begins with a dot.
     Unsupported,
@@ -23,7 +24,7 @@ pub(crate) enum Directive {
 impl Directive {
     /// The directive that a statement's first word is, if it begins with a dot.
     pub(crate) fn of(word: &[u8]) -> Option<Directive>
-        ensures { result ≡ directive_of word.now }
+        ensures { option_map directive_view result ≡ directive_of word.now }
     {
         let (first, name) = word.split_first()?;
         if *first != b'.' {
@@ -35,7 +36,7 @@ impl Directive {
     /// The directive of a name, which stands behind the dot.
     #[tactic(auto, unfolding(crate::specs::Directives::directive_named))]
     fn named(name: &[u8]) -> Directive
-        ensures { result ≡ directive_named name.now }
+        ensures { directive_view result ≡ directive_named name.now }
     {
         if name == b"names".as_slice() {
             Directive::Names
@@ -59,33 +60,18 @@ impl Directive {
 fn is_passed_over(name: &[u8]) -> bool
     ensures { result ≡ is_passed_over name.now }
 {
-    is_wire(name) || is_load(name) || is_default_load(name)
-}
-
-/// Whether this is the name of a gate's area or delay, or of what its wires load.
-fn is_wire(name: &[u8]) -> bool
-    ensures { result ≡ is_wire name.now }
-{
     name == b"area".as_slice()
         || name == b"delay".as_slice()
         || name == b"wire_load_slope".as_slice()
         || name == b"wire".as_slice()
-}
-
-/// Whether this is the name of a load or a time that is given for one signal.
-fn is_load(name: &[u8]) -> bool
-    ensures { result ≡ is_load name.now }
-{
-    name == b"input_arrival".as_slice()
+        || name == b"input_arrival".as_slice()
+        || name == b"default_input_arrival".as_slice()
         || name == b"output_required".as_slice()
+        || name == b"default_output_required".as_slice()
         || name == b"input_drive".as_slice()
+        || name == b"default_input_drive".as_slice()
         || name == b"output_load".as_slice()
+        || name == b"default_output_load".as_slice()
         || name == b"max_input_load".as_slice()
-}
-
-/// Whether this is the name of a load or a time that is given for every signal.
-fn is_default_load(name: &[u8]) -> bool
-    ensures { result ≡ is_default_load name.now }
-{
-    name.starts_with(b"default_") && is_load(&name[8..])
+        || name == b"default_max_input_load".as_slice()
 }

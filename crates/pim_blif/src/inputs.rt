@@ -1,5 +1,6 @@
 ghost use Rattle.std.specs.Prelude.{◌≡◌, ◌<◌, ◌≤◌, ℕ, [], true, length, slice_set, OnOk, count_by};
-ghost use Rattle.pim_blif.specs.InputMarks.{is_marked};
+ghost use Rattle.pim_net.specs.declared.limits.TheConstants.{MAX_SIGNALS};
+ghost use Rattle.pim_blif.specs.inner.InputMarks.{is_marked};
 
 use pim_io::NoMemory;
 use std::alloc::Global;
@@ -13,12 +14,13 @@ pub(crate) struct InputMarks {
 
 impl Model for InputMarks {
     ghost use Rattle.std.specs.Prelude.{◌≤◌, Bool, List, length};
+    ghost use Rattle.pim_net.specs.declared.limits.TheConstants.{MAX_SIGNALS};
 
     ghost Value = { List Bool };
 
     ghost view = { λ m. m.marks.items };
 
-    ghost invariant = { λ m. length m.marks.items ≤ 1048576 };
+    ghost invariant = { λ m. length m.marks.items ≤ MAX_SIGNALS };
 }
 
 impl InputMarks {
@@ -40,9 +42,9 @@ impl InputMarks {
 
     /// Makes room for the mark of a signal; no signal is marked by it.
     pub(crate) fn make_room(&mut self, sig: u32) -> Result<(), NoMemory>
-        requires { sig < 1048576 }
+        requires { sig < MAX_SIGNALS }
         ensures room { OnOk result (sig < length self.new) }
-        ensures within { length self.new ≤ 1048576 }
+        ensures within { length self.new ≤ MAX_SIGNALS }
         ensures same { (s : ℕ) → is_marked self.new s ≡ is_marked self.old s }
         ensures count { count_by (λ mark. mark) self.new ≡ count_by (λ mark. mark) self.old }
     {

@@ -11,9 +11,10 @@ mod line;
 mod reader;
 mod row;
 mod signals;
+mod statement;
 mod statements;
 mod table;
-mod words;
+mod word;
 
 pub use fault::BlifFault;
 pub use file::read;

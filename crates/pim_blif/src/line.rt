@@ -1,19 +1,18 @@
-ghost use Rattle.std.specs.Prelude.{◌≡◌, ◌+◌, ◌*◌, ◌<◌, ◌≤◌, ℕ, List, All, ◌++◌, length, IfOk, OnOk};
+ghost use Rattle.std.specs.Prelude.{◌≡◌, ◌+◌, ◌*◌, ◌≤◌, ◌++◌, length, IfOk, OnOk};
 ghost use Rattle.std.specs.List.{before_first, position_or_len, position};
 ghost use Rattle.pim_io.specs.Words.{is_blank, words};
 ghost use Rattle.pim_blif.specs.Statements.{is_hash, trimmed, content, goes_on, words_of};
-ghost use Rattle.pim_blif.specs.Reading.{texts};
 
+use crate::word::Word;
 use pim_io::{NoMemory, Words, is_blank};
 
-/// Appends the words of a line, at most half as many as it has bytes, and says whether the next line is joined to it. Linear in the line.
-#[tactic(auto, using(crate::proofs::Joins::joined_few, crate::proofs::Joins::joined_some))]
-pub(crate) fn add_line<'a>(words: &mut Vec<&'a [u8]>, line: &'a [u8]) -> Result<bool, NoMemory>
-    ensures words { OnOk result (texts words.new.items ≡ texts words.old.items ++ words_of line.now) }
-    ensures few { OnOk result (2 * length (texts words.new.items)
-        ≤ 2 * length (texts words.old.items) + length line.now + 1) }
-    ensures bytes { OnOk result (All (λ (word : List ℕ). 0 < length word) (texts words.old.items)
-        → All (λ (word : List ℕ). 0 < length word) (texts words.new.items)) }
+/// Appends the words of a line, at most half as many as it has bytes, and tells whether the next line is joined to it. Linear
+/// in the line.
+#[tactic(auto, using(crate::proofs::Joins::joined_few))]
+pub(crate) fn add_line<'a>(words: &mut Vec<Word<'a>>, line: &'a [u8]) -> Result<bool, NoMemory>
+    ensures words { OnOk result (words.new.items ≡ words.old.items ++ words_of line.now) }
+    ensures few { OnOk result (2 * length words.new.items
+        ≤ 2 * length words.old.items + length line.now + 1) }
     ensures goes_on { IfOk result (λ joins. joins ≡ goes_on line.now) }
 {
     let piece = piece_of(line);
@@ -91,12 +90,12 @@ fn trimmed(text: &[u8]) -> &[u8]
 }
 
 /// Appends the words of a text.
-fn add_words<'a>(list: &mut Vec<&'a [u8]>, text: &'a [u8]) -> Result<(), NoMemory>
-    ensures { OnOk result (texts list.new.items ≡ texts list.old.items ++ words text.now) }
+fn add_words<'a>(list: &mut Vec<Word<'a>>, text: &'a [u8]) -> Result<(), NoMemory>
+    ensures { OnOk result (list.new.items ≡ list.old.items ++ words text.now) }
 {
     let mut walk = Words::new(text);
     while let Some(word) = walk.word() {
-        list.push(word)?;
+        list.push(Word::new(word))?;
     }
     Ok(())
 }

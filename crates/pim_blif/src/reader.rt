@@ -1,14 +1,15 @@
-ghost use Rattle.std.specs.Prelude.{◌≡◌, ◌+◌, ◌<◌, ◌≤◌, ◌^◌, ℕ, List, [], None, All, length, OnOk, IfSome};
-ghost use Rattle.pim_blif.specs.Reading.{texts};
-ghost use Rattle.pim_blif.specs.Judging.{known_from, with_input, with_output, each, with_cover, row_of, without_cover};
-ghost use Rattle.pim_blif.specs.Readers.{words_used};
-ghost use Rattle.pim_blif.specs.Steps.{Gives};
+ghost use Rattle.std.specs.Prelude.{◌≡◌, ◌+◌, ◌<◌, ◌≤◌, [], None, length, OnOk, IfSome};
+ghost use Rattle.pim_io.specs.Readings.{Gives};
+ghost use Rattle.pim_net.specs.declared.limits.TheConstants.{MAX_COLUMNS, MAX_EQUATIONS, MAX_ROWS};
+ghost use Rattle.pim_blif.specs.inner.Judging.{known_from, with_input, with_output, each, with_cover, row_of, without_cover};
+ghost use Rattle.pim_blif.specs.inner.Readers.{words_used};
 
 use crate::cover::{add_row, empty_cover};
 use crate::fault::BlifFault;
 use crate::inputs::InputMarks;
 use crate::signals::{signal, signals};
 use crate::table::NameTable;
+use crate::word::Word;
 use pim_io::NoMemory;
 use pim_net::{Bit3, Draft, Equation, Kind, MAX_OUTPUTS, OutRef};
 use std::alloc::Global;
@@ -17,7 +18,7 @@ use std::marker::Model;
 mod closing;
 mod taking;
 
-/// What the statements of a file say, as far as they were read.
+/// What the statements of a file tell, as far as they were read.
 #[derive(Drop)]
 pub(crate) struct Reader<'a> {
     alloc: Global,
@@ -32,8 +33,8 @@ pub(crate) struct Reader<'a> {
 }
 
 impl<'a> Model for Reader<'a> {
-    ghost use Rattle.pim_blif.specs.Judging.{Known};
-    ghost use Rattle.pim_blif.specs.Readers.{IsReader};
+    ghost use Rattle.pim_blif.specs.inner.Judging.{Known};
+    ghost use Rattle.pim_blif.specs.inner.Readers.{IsReader};
 
     ghost Value = { Known };
 
@@ -68,12 +69,12 @@ impl<'a> Reader<'a> {
     }
 
     /// Takes up an input of a name, which is not one already.
-    #[tactic(auto, using(crate::proofs::Marks::few_inputs, crate::proofs::Marks::marks_same, crate::proofs::Marks::marks_more), unfolding(crate::specs::Judging::with_input))]
-    fn add_input(&mut self, line: u32, name: &'a [u8]) -> Result<(), BlifFault>
-        requires { 0 < length name.now }
-        ensures exact { Gives (λ _. self.new) result (with_input line self.old name.now) }
+    #[tactic(auto, using(crate::proofs::Marks::few_inputs, crate::proofs::Marks::marks_same, crate::proofs::Marks::marks_more), unfolding(crate::specs::inner::Judging::with_input))]
+    fn add_input(&mut self, line: u32, name: &Word<'a>) -> Result<(), BlifFault>
+        ensures exact { Gives BlifFault.NoMemory (λ _. self.new) result (with_input line self.old name.now) }
         ensures used { OnOk result (words_used self.new ≡ words_used self.old) }
     {
+        let name = name.bytes();
         let sig = signal(&mut self.names, name)?;
         if self.marks.is_marked(sig) {
             return Err(BlifFault::TwiceInput(line));
@@ -84,13 +85,13 @@ impl<'a> Reader<'a> {
         Ok(())
     }
 
-    /// Takes up an output of a name; there are at most 1,048,576.
-    #[tactic(auto, unfolding(crate::specs::Judging::with_output))]
-    fn add_output(&mut self, name: &'a [u8]) -> Result<(), BlifFault>
-        requires { 0 < length name.now }
-        ensures exact { Gives (λ _. self.new) result (with_output self.old name.now) }
+    /// Takes up an output of a name; there are at most `MAX_OUTPUTS`.
+    #[tactic(auto, unfolding(crate::specs::inner::Judging::with_output))]
+    fn add_output(&mut self, name: &Word<'a>) -> Result<(), BlifFault>
+        ensures exact { Gives BlifFault.NoMemory (λ _. self.new) result (with_output self.old name.now) }
         ensures used { OnOk result (words_used self.new ≡ words_used self.old) }
     {
+        let name = name.bytes();
         let sig = signal(&mut self.names, name)?;
         if self.outputs >= MAX_OUTPUTS {
             return Err(BlifFault::TooLarge(Kind::Outputs));
@@ -101,9 +102,8 @@ impl<'a> Reader<'a> {
     }
 
     /// Takes up inputs, from left to right.
-    fn add_inputs(&mut self, line: u32, names: &[&'a [u8]]) -> Result<(), BlifFault>
-        requires { All (λ (word : List ℕ). 0 < length word) (texts names.now) }
-        ensures exact { Gives (λ _. self.new) result (each (with_input line) self.old (texts names.now)) }
+    fn add_inputs(&mut self, line: u32, names: &[Word<'a>]) -> Result<(), BlifFault>
+        ensures exact { Gives BlifFault.NoMemory (λ _. self.new) result (each (with_input line) self.old names.now) }
         ensures used { OnOk result (words_used self.new ≡ words_used self.old) }
     {
         for name in names {
@@ -113,9 +113,8 @@ impl<'a> Reader<'a> {
     }
 
     /// Takes up outputs, from left to right.
-    fn add_outputs(&mut self, names: &[&'a [u8]]) -> Result<(), BlifFault>
-        requires { All (λ (word : List ℕ). 0 < length word) (texts names.now) }
-        ensures exact { Gives (λ _. self.new) result (each with_output self.old (texts names.now)) }
+    fn add_outputs(&mut self, names: &[Word<'a>]) -> Result<(), BlifFault>
+        ensures exact { Gives BlifFault.NoMemory (λ _. self.new) result (each with_output self.old names.now) }
         ensures used { OnOk result (words_used self.new ≡ words_used self.old) }
     {
         for name in names {
@@ -125,38 +124,36 @@ impl<'a> Reader<'a> {
     }
 
     /// Begins a cover of these names, of which the last is driven by the others.
-    fn begin_cover(&mut self, line: u32, names: &[&'a [u8]]) -> Result<(), BlifFault>
-        requires bytes { All (λ (word : List ℕ). 0 < length word) (texts names.now) }
-        requires few { length names.now < 2 ^ 28 }
-        ensures exact { Gives (λ _. self.new) result (with_cover line self.old (texts names.now)) }
+    fn begin_cover(&mut self, line: u32, names: &[Word<'a>]) -> Result<(), BlifFault>
+        requires { length names.now ≤ MAX_COLUMNS }
+        ensures exact { Gives BlifFault.NoMemory (λ _. self.new) result (with_cover line self.old names.now) }
         ensures used { self.old.cover ≡ None → OnOk result (words_used self.new ≤ words_used self.old + length names.now + 1) }
     {
-        if names.is_empty() {
-            return Err(BlifFault::Syntax(line));
-        }
         let signals = signals(self.alloc, &mut self.names, names)?;
-        let cover = empty_cover(self.alloc, &signals)?;
+        let Some(cover) = empty_cover(self.alloc, signals) else {
+            return Err(BlifFault::Syntax(line));
+        };
         self.cover = Some(cover);
         Ok(())
     }
 
     /// Takes up a row of the open cover.
-    fn add_row(&mut self, line: u32, words: &[&[u8]]) -> Result<(), BlifFault>
-        requires { IfSome self.old.cover (λ e. length e.cover.rows < 2 ^ 28) }
-        ensures exact { Gives (λ _. self.new) result (row_of line self.old self.old.cover (texts words.now)) }
+    fn add_row(&mut self, line: u32, words: &[Word]) -> Result<(), BlifFault>
+        requires { IfSome self.old.cover (λ e. length e.cover.rows < MAX_ROWS) }
+        ensures exact { Gives BlifFault.NoMemory (λ _. self.new) result (row_of line self.old self.old.cover words.now) }
         ensures used { OnOk result (words_used self.new ≤ words_used self.old + 1) }
     {
         let Some(equation) = self.cover.take() else {
             return Err(BlifFault::Syntax(line));
         };
-        let equation = add_row(self.alloc, line, words, equation, &mut self.cells)?;
+        let equation = add_row(line, words, equation, &mut self.cells)?;
         self.cover = Some(equation);
         Ok(())
     }
 
-    /// Ends the cover that is open, as every directive does.
-    fn end_cover(&mut self) -> Result<(), NoMemory>
-        requires { length self.old.draft.equations + 1 < 2 ^ 28 }
+    /// Closes the cover that is open, as every directive does.
+    fn close_cover(&mut self) -> Result<(), NoMemory>
+        requires { length self.old.draft.equations + 1 < MAX_EQUATIONS }
         ensures exact { OnOk result (self.new ≡ without_cover self.old) }
         ensures used { OnOk result (words_used self.new ≤ words_used self.old) }
     {

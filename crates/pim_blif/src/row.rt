@@ -1,10 +1,10 @@
 ghost use Rattle.std.specs.Prelude.{◌≡◌, ◌==◌, length, Some, None, false, is_some, IfSome, IfOk, OnOk, if◌then◌else◌};
 ghost use Rattle.std.specs.List.{list_all};
-ghost use Rattle.pim_blif.specs.Reading.{texts};
-ghost use Rattle.pim_blif.specs.Steps.{Gives};
+ghost use Rattle.pim_io.specs.Readings.{Gives};
 ghost use Rattle.pim_blif.specs.Rows.{is_cell, cell_of, cells_of, pattern_of, output_of, row_words, value_of, is_mixed, row_at};
 
 use crate::fault::BlifFault;
+use crate::word::Word;
 use pim_net::Bit3;
 
 /// The two parts of a row, as they stand in the file.
@@ -16,17 +16,20 @@ struct RowText<'a> {
 
 /// The parts of a row with these words in a cover of so many columns: without columns it is an output character alone, and
 /// otherwise it has a pattern before that.
-fn parts<'a>(width: usize, words: &[&'a [u8]]) -> Option<RowText<'a>>
+fn parts<'a>(width: usize, words: &[Word<'a>]) -> Option<RowText<'a>>
     ensures shape { is_some result ≡ (length words.now == row_words width) }
-    ensures pattern { IfSome result (λ row. row.pattern.now ≡ pattern_of (texts words.now)) }
-    ensures output { IfSome result (λ row. row.output.now ≡ output_of (texts words.now)) }
+    ensures pattern { IfSome result (λ row. row.pattern.now ≡ pattern_of words.now) }
+    ensures output { IfSome result (λ row. row.output.now ≡ output_of words.now) }
 {
     match words {
         [output] if width == 0 => Some(RowText {
             pattern: &[],
-            output,
+            output: output.bytes(),
         }),
-        [pattern, output] if width != 0 => Some(RowText { pattern, output }),
+        [pattern, output] if width != 0 => Some(RowText {
+            pattern: pattern.bytes(),
+            output: output.bytes(),
+        }),
         _ => None,
     }
 }
@@ -56,7 +59,7 @@ fn cell_of(b: u8) -> Option<Bit3>
 
 /// Puts the cells of a pattern in the place of others. Linear in the pattern.
 fn put_cells(line: u32, pattern: &[u8], cells: &mut Vec<Bit3>) -> Result<(), BlifFault>
-    ensures { Gives (λ _. cells.new.items) result
+    ensures { Gives BlifFault.NoMemory (λ _. cells.new.items) result
         (if list_all is_cell pattern.now then Ok (cells_of pattern.now) else Err (BlifFault.Syntax line)) }
 {
     cells.clear();
@@ -76,11 +79,11 @@ pub(crate) fn read_row(
     line: u32,
     width: usize,
     first: Option<bool>,
-    words: &[&[u8]],
+    words: &[Word],
     cells: &mut Vec<Bit3>,
 ) -> Result<bool, BlifFault>
-    ensures exact { Gives (λ value. record { cells = cells.new.items; value = value }) result
-        (row_at line width first (texts words.now)) }
+    ensures exact { Gives BlifFault.NoMemory (λ value. record { cells = cells.new.items; value = value }) result
+        (row_at line width first words.now) }
     ensures whole { OnOk result (length cells.new.items ≡ width) }
     ensures phase { IfOk result (λ value. is_mixed first value ≡ false) }
 {

@@ -1,9 +1,11 @@
-ghost use Rattle.std.specs.Prelude.{◌≡◌, ◌+◌, ◌*◌, ◌<◌, ◌≤◌, ◌∷◌, [], None, length, All, ℕ, List, OnOk, IfOk, IfSome, MatchOption};
+ghost use Rattle.std.specs.Prelude.{◌≡◌, ◌+◌, ◌*◌, ◌<◌, ◌≤◌, ◌∷◌, [], None, length, IfOk, IfSome, MatchOption};
 ghost use Rattle.pim_io.specs.Lines.{lines, lines_left};
+ghost use Rattle.pim_io.specs.declared.limits.TheConstants.{MAX_PROGRAM};
 ghost use Rattle.pim_blif.specs.Statements.{stated, statements_after};
-ghost use Rattle.pim_blif.specs.Reading.{texts, room, statements_left};
+ghost use Rattle.pim_blif.specs.inner.Reading.{room, statements_left};
 
 use crate::line::add_line;
+use crate::word::Word;
 use pim_io::{NoMemory, Scan};
 use std::alloc::Global;
 use std::marker::Model;
@@ -13,23 +15,23 @@ use std::marker::Model;
 #[derive(Debug, Drop)]
 pub(crate) struct Statements<'a> {
     scan: Scan<'a>,
-    words: Vec<&'a [u8]>,
+    words: Vec<Word<'a>>,
 }
 
 impl<'a> Model for Statements<'a> {
     ghost use Rattle.pim_io.specs.Lines.{lines_left};
-    ghost use Rattle.pim_blif.specs.Reading.{StatementsView, texts};
+    ghost use Rattle.pim_blif.specs.inner.Reading.{StatementsView};
 
     ghost Value = { StatementsView };
 
-    ghost view = { λ s. record { words = texts s.words.items; lines = lines_left s.scan } };
+    ghost view = { λ s. record { words = s.words.items; lines = lines_left s.scan } };
 }
 
 impl<'a> Statements<'a> {
     /// A walk that stands before the first statement of the bytes. It takes no memory.
     #[tactic(auto, using(crate::proofs::Rooms::room_of_lines))]
     pub(crate) fn new(alloc: Global, bytes: &'a [u8]) -> Statements<'a>
-        requires { length bytes.now ≤ 536870912 }
+        requires { length bytes.now ≤ MAX_PROGRAM }
         ensures start { result ≡ record { words = []; lines = lines bytes.now } }
         ensures room { room result.lines ≤ length bytes.now + 1 }
     {
@@ -48,7 +50,6 @@ impl<'a> Statements<'a> {
             (λ line. statements_left self.old
             ≡ record { line = line; words = self.new.words } ∷ statements_left self.new)) }
         ensures some { IfOk result (λ next. IfSome next (λ line. 0 < length self.new.words)) }
-        ensures bytes { OnOk result (All (λ (word : List ℕ). 0 < length word) self.new.words) }
         ensures few { IfOk result (λ next.
             2 * length self.new.words + room self.new.lines ≤ room self.old.lines) }
     {
@@ -63,8 +64,8 @@ impl<'a> Statements<'a> {
     }
 
     /// The words of the present statement; none before the first.
-    pub(crate) fn words(&self) -> &[&'a [u8]]
-        ensures { texts result.now ≡ self.now.words }
+    pub(crate) fn words(&self) -> &[Word<'a>]
+        ensures { result.now ≡ self.now.words }
     {
         &self.words
     }
@@ -73,14 +74,13 @@ impl<'a> Statements<'a> {
 /// Gathers the words of the next line and of those that are joined to it, and gives the number of the first; `None` exactly
 /// at the end. Linear in the lines.
 #[tactic(auto, using(crate::proofs::Joins::joins))]
-fn gather<'a>(scan: &mut Scan<'a>, words: &mut Vec<&'a [u8]>) -> Result<Option<u32>, NoMemory>
+fn gather<'a>(scan: &mut Scan<'a>, words: &mut Vec<Word<'a>>) -> Result<Option<u32>, NoMemory>
     ensures statement { IfOk result (λ next. MatchOption next
         (statements_after None (lines_left scan.old) ≡ [])
         (λ line. statements_after None (lines_left scan.old)
-        ≡ stated line (texts words.new.items) (statements_after None (lines_left scan.new)))) }
+        ≡ stated line words.new.items (statements_after None (lines_left scan.new)))) }
     ensures few { IfOk result (λ next.
-        2 * length (texts words.new.items) + room (lines_left scan.new) ≤ room (lines_left scan.old)) }
-    ensures bytes { OnOk result (All (λ (word : List ℕ). 0 < length word) (texts words.new.items)) }
+        2 * length words.new.items + room (lines_left scan.new) ≤ room (lines_left scan.old)) }
     ensures shorter { IfOk result (λ next. IfSome next (λ line. length scan.new.rest < length scan.old.rest)) }
 {
     words.clear();
@@ -105,11 +105,11 @@ mod tests {
         let mut walk = Statements::new(rt.alloc(), b"\na \\ # b\nc\n#\n.e");
         assert_eq!(rt; walk.advance()?, Some(2));
         assert_eq!(rt; walk.words().len(), 2);
-        assert_eq!(rt; walk.words()[0], b"a".as_slice());
-        assert_eq!(rt; walk.words()[1], b"c".as_slice());
+        assert_eq!(rt; walk.words()[0].bytes(), b"a".as_slice());
+        assert_eq!(rt; walk.words()[1].bytes(), b"c".as_slice());
         assert_eq!(rt; walk.advance()?, Some(5));
         assert_eq!(rt; walk.words().len(), 1);
-        assert_eq!(rt; walk.words()[0], b".e".as_slice());
+        assert_eq!(rt; walk.words()[0].bytes(), b".e".as_slice());
         assert_eq!(rt; walk.advance()?, None);
         Ok(())
     }

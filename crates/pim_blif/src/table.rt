@@ -1,11 +1,12 @@
-ghost use Rattle.std.specs.Prelude.{◌≡◌, ◌<◌, ◌≤◌, [], length, map, nat_lt, None, Some, IfOk, OnOk, OnErr, if◌then◌else◌};
+ghost use Rattle.std.specs.Prelude.{◌≡◌, ◌≤◌, [], length, map, IfOk, IfSome, IfNone, OnErr};
 ghost use Rattle.pim_io.specs.Names.{label};
 ghost use Rattle.pim_net.specs.Labels.{IsName};
-ghost use Rattle.pim_blif.specs.Signals.{number_of, is_known, with_name};
+ghost use Rattle.pim_blif.specs.Signals.{with_name};
+ghost use Rattle.pim_blif.specs.inner.Reading.{number_below};
 
 use indexmap::IndexSet;
 use pim_io::NoMemory;
-use pim_net::Names;
+use pim_net::{MAX_SIGNALS, Names};
 use std::alloc::Global;
 use std::marker::Model;
 
@@ -19,13 +20,14 @@ pub(crate) struct NameTable<'a> {
 impl<'a> Model for NameTable<'a> {
     ghost use Rattle.std.specs.Prelude.{ℕ, ◌≤◌, List, All, length};
     ghost use Rattle.pim_net.specs.Labels.{IsName};
-    ghost use Rattle.pim_blif.specs.Reading.{texts};
+    ghost use Rattle.pim_net.specs.declared.limits.TheConstants.{MAX_SIGNALS};
+    ghost use Rattle.pim_blif.specs.inner.Reading.{texts};
 
     ghost Value = { List (List ℕ) };
 
     ghost view = { λ t. texts t.names.keys };
 
-    ghost invariant = { λ t. All IsName (texts t.names.keys) × (length t.names.keys ≤ 1048576) };
+    ghost invariant = { λ t. All IsName (texts t.names.keys) × (length t.names.keys ≤ MAX_SIGNALS) };
 }
 
 impl<'a> NameTable<'a> {
@@ -38,33 +40,23 @@ impl<'a> NameTable<'a> {
         }
     }
 
-    /// How many names there are, at most 1,048,576.
-    pub(crate) fn len(&self) -> u32
-        ensures len { result ≡ length self.now }
-        ensures within { result ≤ 1048576 }
-    {
-        self.names.len() as u32
-    }
-
-    /// The number of a name, if it came before. Expected constant time, beside the length of the name.
-    pub(crate) fn find(&self, name: &[u8]) -> Option<u32>
-        ensures { result ≡ (if is_known self.now name.now then Some (number_of self.now name.now) else None) }
-    {
-        let place = self.names.get_index_of(name)?;
-        Some(place as u32)
-    }
-
-    /// The number of a name of 1 to 4,096 bytes, which is appended where it is new. Expected constant time, beside the length
-    /// of the name. After a refusal the names are as before.
-    pub(crate) fn number(&mut self, name: &'a [u8]) -> Result<u32, NoMemory>
-        requires labelled { IsName name.now }
-        requires room { number_of self.old name.now < 1048576 }
-        ensures number { IfOk result (λ number. number ≡ number_of self.old name.now) }
-        ensures names { OnOk result (self.new ≡ with_name self.old name.now) }
+    /// The number of a name of 1 to `MAX_NAME` bytes, which is appended where it is new; `None` where it is new and there
+    /// are `MAX_SIGNALS` names. Expected constant time, beside the length of the name, which is hashed once. After `None` and
+    /// after a refusal the names are as before.
+    pub(crate) fn number(&mut self, name: &'a [u8]) -> Result<Option<u32>, NoMemory>
+        requires { IsName name.now }
+        ensures number { IfOk result (λ number. number ≡ number_below MAX_SIGNALS self.old name.now) }
+        ensures names { IfOk result (λ number. IfSome number (λ _. self.new ≡ with_name self.old name.now)) }
+        ensures full { IfOk result (λ number. IfNone number (self.new ≡ self.old)) }
         ensures err { OnErr result (self.new ≡ self.old) }
+        ensures within { length self.old ≤ MAX_SIGNALS }
     {
         let (place, _) = self.names.insert_full(name)?;
-        Ok(place as u32)
+        if place >= MAX_SIGNALS as usize {
+            self.names.pop();
+            return Ok(None);
+        }
+        Ok(Some(place as u32))
     }
 
     /// The labels of the names, in order. Linear in their bytes.
@@ -87,12 +79,9 @@ mod tests {
     #[test]
     fn names_are_numbered(rt: HostRuntime) -> Result<(), Fail> {
         let mut table = NameTable::new(rt.alloc());
-        assert_eq!(rt; table.number(b"b")?, 0);
-        assert_eq!(rt; table.number(b"a\x07")?, 1);
-        assert_eq!(rt; table.number(b"b")?, 0);
-        assert_eq!(rt; table.find(b"a\x07"), Some(1));
-        assert_eq!(rt; table.find(b"c"), None);
-        assert_eq!(rt; table.len(), 2);
+        assert_eq!(rt; table.number(b"b")?, Some(0));
+        assert_eq!(rt; table.number(b"a\x07")?, Some(1));
+        assert_eq!(rt; table.number(b"b")?, Some(0));
         let labels = table.labels(rt.alloc())?;
         assert_eq!(rt; labels.find(1), Some(b"a?".as_slice()));
         Ok(())

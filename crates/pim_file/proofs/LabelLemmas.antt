@@ -4,7 +4,7 @@ use Rattle.std.specs.Prelude.{All}
 use Rattle.std.specs.List.{list_all}
 use Rattle.std.proofs.lemmas.Bool.Decides.{nat_tests}
 use Rattle.pim_io.specs.Names.{label, label_byte, IsShown, IsLabel}
-use Rattle.pim_file.specs.LineForms.{is_shown, is_label}
+use Rattle.pim_io.specs.Names.{is_shown, is_label}
 
 shown_is : (b : ℕ) → is_shown b ≡ true → IsShown b
 shown_is b h = grind (arith, nat_tests)

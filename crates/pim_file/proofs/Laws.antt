@@ -23,11 +23,14 @@ use Rattle.pim_isa.specs.Touches.{operand_cells, names}
 use Rattle.pim_isa.specs.Validity.{fault_of}
 use Rattle.pim_file.specs.declared.fault.FileFault.{FileFault}
 use Rattle.pim_file.specs.declared.fault.FileFault.TheVariants as faults
-use Rattle.pim_file.specs.Spelled.{IsSpelledOperand, HasLine, HasPortLine, HasText, HasFewParts}
-use Rattle.pim_file.specs.Steps.{◌>>=◌, Gives}
+use Rattle.pim_file.specs.Spelled.{IsSpelledOperand, HasLine, HasPortLine, HasText}
+use Rattle.pim_file.specs.inner.Kept.{HasFewParts}
+use Rattle.pim_io.specs.declared.limits.TheConstants.{MAX_PROGRAM}
+use Rattle.pim_io.specs.Readings.{◌>>=◌, Gives}
 use Rattle.pim_file.specs.Text.{instr_text, nor_text, counted_text, port_text, ports_text, instrs_text, head_text, text as text_of}
 use Rattle.pim_file.specs.Reading.{start}
-use Rattle.pim_file.specs.ProgramFile.{read_from, any_size, within_limit, draft_of, with_fault, validated, sized, parse1_of, program_within_limit}
+use Rattle.pim_file.specs.ProgramFile.{read_from, any_size, draft_of, with_fault, validated, sized, parse1_of}
+use Rattle.pim_file.specs.inner.Kept.{within_limit, program_within_limit}
 use Rattle.pim_file.proofs.LimitLemmas.{start_kept}
 use Rattle.pim_file.proofs.ReadBack.{draft_of-text, draft_of-cut}
 use Rattle.pim_file.proofs.OneText.{bind_ok, ok_is, draft_is}
@@ -70,7 +73,7 @@ six_pieces a b c d e f = simp length-append
 head_is_some : (target : Target) (cells : ℕ) → 1 ≤ length (head_text target cells)
 head_is_some target cells = omega arith
 
-small_text : (d : ProgramView) → length (text_of d) ≤ 536870912 → HasFewParts d
+small_text : (d : ProgramView) → length (text_of d) ≤ MAX_PROGRAM → HasFewParts d
 small_text d h =
     let whole = six_pieces (head_text d.target d.cells) (ports_text (codes "input ") d.inputs) (ports_text (codes "output ") d.outputs) (counted_text (codes "cycles ") (length d.instrs)) (instrs_text d.instrs) (codes "end\n") in
     let head = head_is_some d.target d.cells in
@@ -91,12 +94,12 @@ kept_draft_is bytes d e =
     let b = bind_ok (read_from any_size start (lines bytes)) sized d (sym (start_kept (lines bytes)) ∙ e) in
     b.1 ∙ ap (λ (x : ProgramView). let r : Result ProgramView FileFault = Ok x in r) (size_cases (ltb MAX_CELLS b.0.cells) b.0 d b.2)
 
-kept_is_small : (bytes : List ℕ) (d : ProgramView) → length bytes ≤ 536870912 → read_from within_limit start (lines bytes) ≡ Ok d → HasFewParts d
+kept_is_small : (bytes : List ℕ) (d : ProgramView) → length bytes ≤ MAX_PROGRAM → read_from within_limit start (lines bytes) ≡ Ok d → HasFewParts d
 kept_is_small bytes d h e =
     let text = draft_is bytes d (kept_draft_is bytes d e) in
-    small_text d (subst (λ (t : List ℕ). length t ≤ 536870912) text.0 h)
+    small_text d (subst (λ (t : List ℕ). length t ≤ MAX_PROGRAM) text.0 h)
 
-pub kept_has_few : (bytes : List ℕ) (r : Result ProgramView FileFault) → length bytes ≤ 536870912 → r ≡ read_from within_limit start (lines bytes) → IfOk r HasFewParts
+pub kept_has_few : (bytes : List ℕ) (r : Result ProgramView FileFault) → length bytes ≤ MAX_PROGRAM → r ≡ read_from within_limit start (lines bytes) → IfOk r HasFewParts
 kept_has_few bytes (Ok d) h e = kept_is_small bytes d h (sym e)
 kept_has_few bytes (Err fault) h e = tt
 
@@ -172,10 +175,10 @@ pub parse1_of-cut : (p : ProgramView) (k : ℕ) → IsProgram p → k < length (
 unfolding parse1_of
 parse1_of-cut p k h lt = let cut = draft_of-cut p k (program_has_text p h) lt in rw cut refl
 
-pub gives_program : (bytes : List ℕ) (r : Result ProgramView FileFault) → Gives (λ (p : ProgramView). p) r (program_within_limit bytes) → Gives (λ (p : ProgramView). p) r (parse1_of bytes)
-gives_program bytes r h = subst (λ (reading : Result ProgramView FileFault). Gives (λ (p : ProgramView). p) r reading) (sym (parse1_of-kept bytes)) h
+pub gives_program : (bytes : List ℕ) (r : Result ProgramView FileFault) → Gives faults.NoMemory (λ (p : ProgramView). p) r (program_within_limit bytes) → Gives faults.NoMemory (λ (p : ProgramView). p) r (parse1_of bytes)
+gives_program bytes r h = subst (λ (reading : Result ProgramView FileFault). Gives faults.NoMemory (λ (p : ProgramView). p) r reading) (sym (parse1_of-kept bytes)) h
 
-pub gives_text : (bytes : List ℕ) (r : Result ProgramView FileFault) → Gives (λ (p : ProgramView). p) r (program_within_limit bytes) → IfOk r (λ p. bytes ≡ text_of p)
+pub gives_text : (bytes : List ℕ) (r : Result ProgramView FileFault) → Gives faults.NoMemory (λ (p : ProgramView). p) r (program_within_limit bytes) → IfOk r (λ p. bytes ≡ text_of p)
 gives_text bytes (Ok p) h = program_is bytes p (gives_program bytes (Ok p) h)
 gives_text bytes (Err fault) h = tt
 

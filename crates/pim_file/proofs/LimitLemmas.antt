@@ -9,13 +9,14 @@ use Rattle.pim_isa.specs.declared.draft.TheConstants.{MAX_CELLS}
 use Rattle.pim_isa.specs.Programs.{ProgramView}
 use Rattle.pim_file.specs.declared.fault.FileFault.{FileFault}
 use Rattle.pim_file.specs.declared.fault.FileFault.TheVariants as faults
-use Rattle.pim_file.specs.declared.section.Section.{Section}
-use Rattle.pim_file.specs.declared.section.Section.TheVariants as section
+use Rattle.pim_file.specs.Sections.{Section}
+use Rattle.pim_file.specs.Sections as section
 use Rattle.pim_file.specs.LineForms.{target_of, counted_of, port_of}
 use Rattle.pim_file.specs.InstrForms.{instr_of}
-use Rattle.pim_file.specs.Steps.{◌>>=◌}
+use Rattle.pim_io.specs.Readings.{◌>>=◌}
 use Rattle.pim_file.specs.Reading.{Reading, start, begun, with_input, with_output, with_instr, after_input, after_output, after_cycles, after_outputs, after_inputs, after_end, after_in, after, is_ended, line_read}
-use Rattle.pim_file.specs.ProgramFile.{read_from, any_size, within_limit, sized}
+use Rattle.pim_file.specs.ProgramFile.{read_from, any_size, sized}
+use Rattle.pim_file.specs.inner.Kept.{within_limit}
 
 -- what is kept of a reading
 abbrev kept_draft : Option ProgramView → Option ProgramView

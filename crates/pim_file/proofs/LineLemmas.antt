@@ -13,7 +13,8 @@ use Rattle.pim_isa.specs.declared.target.Target.{Target}
 use Rattle.pim_isa.specs.declared.target.Target.TheVariants.{Magic, Plim}
 use Rattle.pim_isa.specs.declared.port.Port.{Port}
 use Rattle.pim_file.specs.Fields.{is_space, fields, behind, plain_number}
-use Rattle.pim_file.specs.LineForms.{target_of, counted_of, is_label, labelled, port_of}
+use Rattle.pim_file.specs.LineForms.{target_of, counted_of, labelled, port_of}
+use Rattle.pim_io.specs.Names.{is_label}
 use Rattle.pim_file.specs.Spelled.{HasPortLine}
 use Rattle.pim_file.specs.Text.{target_word}
 use Rattle.pim_file.proofs.LabelLemmas.{label_test, is_label-from_IsLabel}

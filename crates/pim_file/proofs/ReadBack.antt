@@ -18,8 +18,8 @@ use Rattle.pim_isa.specs.declared.instr.Instr.TheVariants.{Init, Nor, Rm3}
 use Rattle.pim_isa.specs.Programs.{ProgramView}
 use Rattle.pim_file.specs.declared.fault.FileFault.{FileFault}
 use Rattle.pim_file.specs.declared.fault.FileFault.TheVariants as faults
-use Rattle.pim_file.specs.declared.section.Section.TheVariants as section
-use Rattle.pim_file.specs.LineForms.{is_shown, is_label}
+use Rattle.pim_file.specs.Sections as section
+use Rattle.pim_io.specs.Names.{is_shown, is_label}
 use Rattle.pim_file.specs.Spelled.{AreSpelled, IsSpelledOperand, HasLine, HasPortLine, HasText}
 use Rattle.pim_file.specs.Text.{target_word, numbers_text, operand_text, nor_text, instr_text, counted_text, port_text, ports_text, instrs_text, head_text, text as text_of}
 use Rattle.pim_file.specs.Reading.{Reading, start, begun, after, is_ended}

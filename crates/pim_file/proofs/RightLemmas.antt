@@ -19,11 +19,11 @@ use Rattle.pim_isa.specs.Validity.{fault_of}
 use Rattle.pim_isa.specs.Programs.{ProgramView}
 use Rattle.pim_file.specs.declared.fault.FileFault.{FileFault}
 use Rattle.pim_file.specs.declared.fault.FileFault.TheVariants as faults
-use Rattle.pim_file.specs.declared.section.Section.{Section}
-use Rattle.pim_file.specs.declared.section.Section.TheVariants as section
+use Rattle.pim_file.specs.Sections.{Section}
+use Rattle.pim_file.specs.Sections as section
 use Rattle.pim_file.specs.LineForms.{target_of, counted_of, port_of}
 use Rattle.pim_file.specs.InstrForms.{instr_of}
-use Rattle.pim_file.specs.Steps.{◌>>=◌}
+use Rattle.pim_io.specs.Readings.{◌>>=◌}
 use Rattle.pim_file.specs.Text.{target_word, nor_text, instr_text}
 use Rattle.pim_file.specs.Reading.{Reading, start, begun, with_input, with_output, with_instr, after_input, after_output, after_cycles, after_outputs, after_inputs, after_end, after_instrs, after_in, after, is_ended}
 use Rattle.pim_file.specs.ProgramFile.{read_from, any_size, draft_of, with_fault, validated, sized, parse1_of}

@@ -12,11 +12,6 @@ is_space b = b == 32
 abbrev pub fields : List ℕ → List (List ℕ)
 fields text = slice_split is_space text
 
--- the fields that a walk has left: those of a text, or none behind the last one
-abbrev pub fields_left : Option (List ℕ) → List (List ℕ)
-fields_left None = []
-fields_left (Some text) = fields text
-
 -- what stands behind this front of a line
 abbrev pub behind : List ℕ → List ℕ → Option (List ℕ)
 behind front line = if bytes_eq (take (length front) line) front then Some (drop (length front) line) else None

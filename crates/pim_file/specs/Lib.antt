@@ -3,7 +3,8 @@ pub mod Spelled
 pub mod Fields
 pub mod LineForms
 pub mod InstrForms
-pub mod Steps
+pub mod Sections
 pub mod Reading
 pub mod ProgramFile
 pub mod Right
+pub mod inner

@@ -9,7 +9,7 @@ use Rattle.pim_isa.specs.Programs.{ProgramView}
 use Rattle.pim_isa.specs.Validity.{fault_of}
 use Rattle.pim_file.specs.declared.fault.FileFault.{FileFault}
 use Rattle.pim_file.specs.declared.fault.FileFault.TheVariants as faults
-use Rattle.pim_file.specs.Steps.{◌>>=◌}
+use Rattle.pim_io.specs.Readings.{◌>>=◌}
 use Rattle.pim_file.specs.Reading.{Reading, start, is_ended, line_read}
 
 -- the draft at the end of the lines, where `end` was read
@@ -24,10 +24,6 @@ read_from keep r (line ∷ others) = line_read keep r line >>= λ next. read_fro
 -- a draft of as many cells as it says
 abbrev pub any_size : ProgramView → Option ProgramView
 any_size draft = Some draft
-
--- a draft of at most as many cells as a program may have
-abbrev pub within_limit : ProgramView → Option ProgramView
-within_limit draft = if nat_lt MAX_CELLS draft.cells then None else Some draft
 
 -- the draft that a file is the text of
 unfoldable pub draft_of : List ℕ → Result ProgramView FileFault
@@ -49,7 +45,3 @@ sized draft = if nat_lt MAX_CELLS draft.cells then Err faults.TooLarge else Ok d
 -- the program that a file is the text of
 unfoldable pub parse1_of : List ℕ → Result ProgramView FileFault
 parse1_of bytes = draft_of bytes >>= sized >>= validated
-
--- the same where a draft that is too large is dropped when it begins
-abbrev pub program_within_limit : List ℕ → Result ProgramView FileFault
-program_within_limit bytes = read_from within_limit start (lines bytes) >>= validated

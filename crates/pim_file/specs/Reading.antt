@@ -10,8 +10,8 @@ use Rattle.pim_isa.specs.declared.instr.Instr.{Instr}
 use Rattle.pim_isa.specs.Programs.{ProgramView}
 use Rattle.pim_file.specs.declared.fault.FileFault.{FileFault}
 use Rattle.pim_file.specs.declared.fault.FileFault.TheVariants as faults
-use Rattle.pim_file.specs.declared.section.Section.{Section}
-use Rattle.pim_file.specs.declared.section.Section.TheVariants as section
+use Rattle.pim_file.specs.Sections.{Section}
+use Rattle.pim_file.specs.Sections as section
 use Rattle.pim_file.specs.LineForms.{target_of, counted_of, port_of}
 use Rattle.pim_file.specs.InstrForms.{instr_of}
 

@@ -1,5 +1,5 @@
 -- Which drafts have a text: those whose numbers are below 2 ^ 32, and whose labels are labels.
-use Rattle.std.specs.Prelude.{ℕ, ◌+◌, ◌^◌, ◌<◌, List, ◌∷◌, length}
+use Rattle.std.specs.Prelude.{ℕ, ◌^◌, ◌<◌, List, ◌∷◌, length}
 use Rattle.std.specs.List.{AllByRecursion}
 use Rattle.pim_io.specs.Names.{IsLabel}
 use Rattle.pim_isa.specs.declared.port.Port.{Port}
@@ -38,8 +38,3 @@ pub record HasText (draft : ProgramView) : Type 0 where
   pub outputs : AllByRecursion HasPortLine draft.outputs
   pub cycles : length draft.instrs < 2 ^ 32
   pub instrs : AllByRecursion HasLine draft.instrs
-
--- a draft of so few ports and instructions that each has a number
-pub record HasFewParts (draft : ProgramView) : Type 0 where
-  pub ports : length draft.inputs + length draft.outputs < 2 ^ 28
-  pub instrs : length draft.instrs < 2 ^ 28

@@ -1,9 +1,10 @@
 ghost use Rattle.std.specs.Prelude.{◌≡◌, ◌∷◌, ◌<◌, [], length, Some, None, IfSome, MatchOption};
-ghost use Rattle.std.specs.List.{position};
 ghost use Rattle.std.specs.Option.{option_copied};
 ghost use Rattle.std.specs.Str.{bytes_eq};
-ghost use Rattle.pim_file.specs.Fields.{is_space, fields_left, behind, plain_number, number_at};
+ghost use Rattle.pim_file.specs.Fields.{behind, plain_number, number_at};
+ghost use Rattle.pim_file.specs.inner.FieldWalks.{fields_left};
 
+use pim_io::first_space;
 use std::marker::Model;
 
 /// Whether a text is this one.
@@ -18,14 +19,6 @@ pub(crate) fn behind<'a>(front: &[u8], line: &'a [u8]) -> Option<&'a [u8]>
     ensures { option_copied result ≡ behind front.now line.now }
 {
     line.strip_prefix(front)
-}
-
-/// Where the first space of a text stands.
-pub(crate) fn first_space(text: &[u8]) -> Option<usize>
-    ensures place { result ≡ position is_space text.now }
-    ensures within { IfSome result (λ k. k < length text.now) }
-{
-    text.iter().position(|b| *b == b' ')
 }
 
 /// The number below 2^32 that a word spells in decimal, without leading zeros.

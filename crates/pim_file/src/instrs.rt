@@ -1,5 +1,5 @@
 ghost use Rattle.std.specs.Prelude.{◌≡◌, IfOk, MatchOption, Some, None};
-ghost use Rattle.pim_file.specs.Fields.{fields_left};
+ghost use Rattle.pim_file.specs.inner.FieldWalks.{fields_left};
 ghost use Rattle.pim_file.specs.InstrForms.{cell_of, operand_of, operand_at, cell_at, closed, init_of, not_of, nor_of, rm3_of, instr_of};
 
 use crate::fields::{Fields, behind, is_text, plain_number};

@@ -1,9 +1,10 @@
-ghost use Rattle.std.specs.Prelude.{◌≡◌, IfSome, IsTrue, option_map};
-ghost use Rattle.std.specs.List.{list_all};
+ghost use Rattle.std.specs.Prelude.{◌≡◌, IfSome, option_map};
 ghost use Rattle.pim_io.specs.Names.{IsLabel};
-ghost use Rattle.pim_file.specs.LineForms.{target_of, counted_of, is_shown, is_label, port_view, port_of};
+ghost use Rattle.pim_file.specs.LineForms.{target_of, counted_of, port_of};
+ghost use Rattle.pim_file.specs.inner.PortLines.{port_view};
 
-use crate::fields::{behind, first_space, is_text, plain_number};
+use crate::fields::{behind, is_text, plain_number};
+use pim_io::{first_space, is_label};
 use pim_isa::Target;
 
 /// The target that a line names.
@@ -24,22 +25,6 @@ pub(crate) fn counted(word: &[u8], line: &[u8]) -> Option<u32>
     ensures { result ≡ counted_of word.now line.now }
 {
     plain_number(behind(word, line)?)
-}
-
-/// Whether each byte may stand in a label: none is below 32, and none is 127.
-fn are_shown(text: &[u8]) -> bool
-    ensures { result ≡ list_all is_shown text.now }
-{
-    text.iter().all(|b| *b >= 32 && *b != 127)
-}
-
-/// Whether a text is a label.
-#[tactic(auto, using(crate::proofs::LabelLemmas::label_test))]
-fn is_label(text: &[u8]) -> bool
-    ensures test { result ≡ is_label text.now }
-    ensures label { IsTrue result → IsLabel text.now }
-{
-    !text.is_empty() && text.len() <= 4096 && are_shown(text)
 }
 
 /// A port as a line spells it.

@@ -1,24 +1,26 @@
 ghost use Rattle.std.specs.Prelude.{◌≡◌, ◌≤◌, ◌↔◌, [], length, Ok, IfOk};
 ghost use Rattle.pim_io.specs.Lines.{lines};
 ghost use Rattle.pim_isa.specs.Programs.{ProgramView};
-ghost use Rattle.pim_file.specs.Spelled.{HasText, HasFewParts};
-ghost use Rattle.pim_file.specs.Steps.{Gives};
+ghost use Rattle.pim_file.specs.Spelled.{HasText};
+ghost use Rattle.pim_file.specs.inner.Kept.{HasFewParts};
+ghost use Rattle.pim_io.specs.Readings.{Gives};
 ghost use Rattle.pim_file.specs.Text.{text as text_of};
 ghost use Rattle.pim_file.specs.Reading.{start};
 ghost use Rattle.pim_file.specs.Right.{first_wrong, is_cut_off, wrong_line, is_truncated};
-ghost use Rattle.pim_file.specs.ProgramFile.{read_from, within_limit, program_within_limit, draft_of, parse1_of};
+ghost use Rattle.pim_file.specs.ProgramFile.{read_from, draft_of, parse1_of};
+ghost use Rattle.pim_file.specs.inner.Kept.{within_limit, program_within_limit};
 
 use crate::fault::FileFault;
 use crate::reader::Reader;
-use pim_io::Scan;
+use pim_io::{MAX_PROGRAM, Scan};
 use pim_isa::{Program, ProgramDraft};
 use std::alloc::Global;
 
 /// The program that a text is of, or the first fault: the first line that may not stand where it stands, else that the
 /// line `end` is missing, else that there are too many cells, else what makes the program invalid. Linear in the bytes.
 pub fn parse_text(alloc: Global, bytes: &[u8]) -> Result<Program, FileFault>
-    requires { length bytes.now ≤ 536870912 }
-    ensures exact { Gives (λ program. program) result (parse1_of bytes.now) }
+    requires { length bytes.now ≤ MAX_PROGRAM }
+    ensures exact { Gives FileFault.NoMemory (λ program. program) result (parse1_of bytes.now) }
 
     // A line is judged by the last line before it, and by how many lines have followed the number of cycles.
     ensures line { wrong_line (parse1_of bytes.now) ≡ first_wrong [] (lines bytes.now) }
@@ -35,8 +37,8 @@ pub fn parse_text(alloc: Global, bytes: &[u8]) -> Result<Program, FileFault>
 
 /// The program that a program file holds, as `parse_text` gives it.
 pub fn parse(alloc: Global, bytes: &[u8]) -> Result<Program, FileFault>
-    requires { length bytes.now ≤ 536870912 }
-    ensures exact { Gives (λ program. program) result (parse1_of bytes.now) }
+    requires { length bytes.now ≤ MAX_PROGRAM }
+    ensures exact { Gives FileFault.NoMemory (λ program. program) result (parse1_of bytes.now) }
 
     // No other bytes are read as this program.
     ensures spelled { IfOk result (λ program. bytes.now ≡ text_of program) }
@@ -46,8 +48,8 @@ pub fn parse(alloc: Global, bytes: &[u8]) -> Result<Program, FileFault>
 
 /// The program of the draft of a program file.
 fn validated(alloc: Global, bytes: &[u8]) -> Result<Program, FileFault>
-    requires { length bytes.now ≤ 536870912 }
-    ensures { Gives (λ program. program) result (program_within_limit bytes.now) }
+    requires { length bytes.now ≤ MAX_PROGRAM }
+    ensures { Gives FileFault.NoMemory (λ program. program) result (program_within_limit bytes.now) }
 {
     let draft = draft(alloc, bytes)?;
     Ok(Program::new(draft)?)
@@ -55,8 +57,8 @@ fn validated(alloc: Global, bytes: &[u8]) -> Result<Program, FileFault>
 
 /// The draft of a program file, not checked yet.
 fn draft(alloc: Global, bytes: &[u8]) -> Result<ProgramDraft, FileFault>
-    requires { length bytes.now ≤ 536870912 }
-    ensures exact { Gives (λ draft. draft) result (read_from within_limit start (lines bytes.now)) }
+    requires { length bytes.now ≤ MAX_PROGRAM }
+    ensures exact { Gives FileFault.NoMemory (λ draft. draft) result (read_from within_limit start (lines bytes.now)) }
     ensures few { IfOk result HasFewParts }
 {
     let mut reader = Reader::new(alloc);

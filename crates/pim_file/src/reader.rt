@@ -2,10 +2,11 @@ ghost use Rattle.std.specs.Prelude.{◌≡◌, Some, None, if◌then◌else◌, 
 ghost use Rattle.std.specs.Bool.{OnFalse};
 ghost use Rattle.pim_io.specs.Lines.{line_view};
 ghost use Rattle.pim_io.specs.Names.{IsLabel};
-ghost use Rattle.pim_file.specs.LineForms.{port_view};
-ghost use Rattle.pim_file.specs.Steps.{Gives};
+ghost use Rattle.pim_file.specs.inner.PortLines.{port_view};
+ghost use Rattle.pim_io.specs.Readings.{Gives};
 ghost use Rattle.pim_file.specs.Reading.{start, begun, with_input, with_output, with_instr, after_form, after_target, after_cells, after_input, after_output, after_cycles, after_outputs, after_inputs, after_end, after_instrs, after_in, after, is_ended, line_read};
-ghost use Rattle.pim_file.specs.ProgramFile.{finished, within_limit};
+ghost use Rattle.pim_file.specs.ProgramFile.{finished};
+ghost use Rattle.pim_file.specs.inner.Kept.{within_limit};
 
 use crate::fault::FileFault;
 use crate::fields::is_text;
@@ -32,10 +33,11 @@ pub(crate) struct Reader {
 
 impl Model for Reader {
     ghost use Rattle.pim_file.specs.Reading.{Reading};
+    ghost use Rattle.pim_file.specs.inner.Places.{section_of};
 
     ghost Value = { Reading };
 
-    ghost view = { λ r. record { section = r.section; draft = r.draft } };
+    ghost view = { λ r. record { section = section_of r.section; draft = r.draft } };
 }
 
 impl Reader {
@@ -52,7 +54,7 @@ impl Reader {
 
     /// The next line.
     pub(crate) fn line(&mut self, line: Line) -> Result<(), FileFault>
-        ensures { Gives (λ _. self.new) result (line_read within_limit self.old (line_view line.entry)) }
+        ensures { Gives FileFault.NoMemory (λ _. self.new) result (line_read within_limit self.old (line_view line.entry)) }
     {
         if !line.ended && self.section != Section::Ended {
             return Err(FileFault::Truncated);

@@ -1,7 +1,9 @@
+pub mod Allotting
 mod Examples
 pub mod Orderings
 pub mod Peaking
 pub mod Placing
+pub mod Pooling
 pub mod ReadLemmas
 pub mod Reaching
 pub mod StableSorts

@@ -88,7 +88,7 @@ children_once g order p ks placed h e =
     let most = once_at_most order placed.once p c (omega arith) in
     omega arith)
 
-count_below : (p q : ℕ → Bool) (n : ℕ) → ((y : ℕ) → y < n → p y ≡ q y) → (xs : List ℕ) → All (λ x. x < n) xs → count_by p xs ≡ count_by q xs
+pub count_below : (p q : ℕ → Bool) (n : ℕ) → ((y : ℕ) → y < n → p y ≡ q y) → (xs : List ℕ) → All (λ x. x < n) xs → count_by p xs ≡ count_by q xs
 count_below p q n h [] all = refl
 count_below p q n h (x ∷ xs) all =
     let a = sum_by-cons (λ v. cond {A = ℕ} (p v) 1 0) x xs in

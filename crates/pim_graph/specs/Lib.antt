@@ -1,4 +1,5 @@
 pub mod inner
+pub mod Allotments
 pub mod Graphs
 pub mod Orders
 pub mod Peaks

@@ -1,2 +1,3 @@
 -- Inner: definitions that private functions and representations cite, and no public contract.
 pub mod Nodes
+pub mod Pools

@@ -123,6 +123,7 @@ impl Graph {
         ensures placed { IsPlaced self.now (order self.now) }
         ensures full { ((gate : ℕ) → gate < length self.now.kids → IsReached self.now gate)
             → length (order self.now) ≡ length self.now.kids }
+        ensures few { length (order self.now) ≤ length self.now.kids }
     {
         let _ = &self.roots;
     }

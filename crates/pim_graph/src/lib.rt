@@ -2,16 +2,19 @@
 //! depth-first visit guided by that computes them, and how many values are held at once.
 #![tactic(auto)]
 
+mod allotments;
 mod falling;
 mod graph;
 mod ordering;
 mod peaks;
 mod readers;
+mod spares;
 #[cfg(test)]
 mod tests;
 mod usages;
 mod walk;
 
+pub use allotments::{Allotment, allot};
 pub use graph::Graph;
 pub use ordering::order;
 pub use peaks::peak;

@@ -54,6 +54,14 @@ impl Readers {
         self.left[gate as usize] == 0
     }
 
+    /// Whether exactly one read of a gate is still to come. Constant time.
+    pub fn is_last(&self, gate: u32) -> bool
+        requires { gate < length self.now }
+        ensures { result ≡ (slice_index self.now gate == 1) }
+    {
+        self.left[gate as usize] == 1
+    }
+
     /// A gate is still needed by the numbers exactly where it is a root or one of the gates whose reads they count reads
     /// it. It computes nothing.
     pub fn tell_needed(&self)

@@ -1,4 +1,4 @@
-use crate::{Graph, Readers, order, peak, usage};
+use crate::{Graph, Readers, allot, order, peak, usage};
 use std::test::Fail;
 
 /// Gate 2 reads gates 0 and 1, gate 3 reads gates 1 and 2, so gate 2 with its greater usage is visited first. Root 4 is
@@ -44,5 +44,22 @@ fn reads_to_come(rt: HostRuntime) -> Result<(), Fail> {
     assert_eq!(rt; readers.is_spent(b), false);
     readers.take_back(b);
     assert_eq!(rt; readers.is_spent(b), true);
+    Ok(())
+}
+
+/// Gate 2 takes a cell while it reads gates 0 and 1, and then gate 0's is free again.
+#[test]
+fn cells_for_gates(rt: HostRuntime) -> Result<(), Fail> {
+    let mut graph = Graph::new(rt.alloc());
+    let a = graph.add(&[])?;
+    let b = graph.add(&[])?;
+    let c = graph.add(&[a, b])?;
+    let d = graph.add(&[b, c])?;
+    graph.add_root(d)?;
+    graph.has_order();
+    let gates = order(rt.alloc(), &graph)?;
+    let allotment = allot(rt.alloc(), &graph, &gates, 10, &[])?;
+    assert_eq!(rt; allotment.cells(), [10, 11, 12, 10].as_slice());
+    assert_eq!(rt; allotment.width(), 13);
     Ok(())
 }

@@ -17,7 +17,7 @@ use Rattle.pim_isa.specs.Validity.{has}
 use Rattle.pim_isa.specs.Steps.{bit, value, majority}
 use Rattle.pim_isa.specs.Results.{fill_bit}
 use Rattle.pim_io.specs.Lanes.{is_set, lane, column_in}
-use Rattle.pim_lanes.specs.Columns.{Stored}
+use Rattle.pim_lanes.specs.inner.Columns.{Stored}
 use Rattle.pim_lanes.specs.Banks.{BankView, column_of, column_at, row_of, IsRow, IsBuffer, SameFrame, FitsCells, place_of, fill_word}
 use Rattle.pim_lanes.proofs.BitLemmas.{is_set-zero}
 use Rattle.pim_lanes.proofs.RuleLemmas.{lane-ones}

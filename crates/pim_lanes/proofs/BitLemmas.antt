@@ -5,7 +5,7 @@ use Rattle.std.proofs.lemmas.Nat.{or_lt}
 use Rattle.std.proofs.lemmas.Nat.Bits.{bit_at-lt, bit_at_and, bit_at_or, bit_at_not, bit_at_ones, bit_at-zero}
 use Rattle.pim_isa.specs.Steps.{majority}
 use Rattle.pim_io.specs.Lanes.{is_set}
-use Rattle.pim_lanes.specs.Rules.{complement, nor1_word, nor2_word, rm3_word}
+use Rattle.pim_lanes.specs.inner.Rules.{complement, nor1_word, nor2_word, rm3_word}
 
 both_one : (x y : ℕ) → x < 2 → y < 2 → eqb (min x y) 1 ≡ (eqb x 1 && eqb y 1)
 both_one zero zero p q = refl

@@ -4,7 +4,7 @@ use Rattle.std.proofs.lemmas.Bool.{cases_lt}
 use Rattle.std.proofs.lemmas.List.{length-append, length-drop, length-take-le, drop-append-le, take-append-le, take-append-drop, drop_at, drop-drop, take_at, drop-replicate, take-replicate}
 use borrow.Rule.Slice.PartMut.{put_mid}
 use Rattle.pim_io.specs.Lanes.{lane, column_in}
-use Rattle.pim_lanes.specs.Columns.{Stored}
+use Rattle.pim_lanes.specs.inner.Columns.{Stored}
 
 -- a column below another one ends before that one begins
 pub low_within : (w c t : ℕ) → c < t → c * w + w ≤ t * w

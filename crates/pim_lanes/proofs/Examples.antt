@@ -2,7 +2,7 @@
 use Rattle.std.proofs.Common.{◌≡◌, true, false, [], ◌∷◌, refl}
 use Rattle.pim_isa.specs.declared.instr.Operand.TheVariants as operand
 use Rattle.pim_io.specs.Lanes.{is_set, lane, column_in}
-use Rattle.pim_lanes.specs.Rules.{nor1_word, nor2_word, rm3_word}
+use Rattle.pim_lanes.specs.inner.Rules.{nor1_word, nor2_word, rm3_word}
 use Rattle.pim_lanes.specs.Banks.{BankView, column_of, column_at, row_of, place_of}
 
 -- ---- lanes: 5 has the bits 0 and 2

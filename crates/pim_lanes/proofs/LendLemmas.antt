@@ -3,7 +3,7 @@ use Rattle.std.proofs.Common.{◌≡◌, ℕ, ◌+◌, ◌-◌, ◌*◌, ◌<◌
 use Rattle.std.proofs.lemmas.List.{length-append, length-drop, length-take-le, drop-append-le, take-append-le, take-append-drop, drop-take, drop-drop, take_all}
 use borrow.Rule.Slice.PartMut.{put_mid}
 use Rattle.pim_io.specs.Lanes.{lane, column_in, with_words}
-use Rattle.pim_lanes.specs.Columns.{Stored}
+use Rattle.pim_lanes.specs.inner.Columns.{Stored}
 use Rattle.pim_lanes.specs.Banks.{BankView, with_column, row_of, IsRow, IsBuffer}
 use Rattle.pim_lanes.proofs.ColumnLemmas.{low_within, column_in-low, column_before, length-column_in, put_target, put_others}
 use Rattle.pim_lanes.proofs.BankLemmas.{row_stored}

@@ -6,7 +6,7 @@ use Rattle.std.proofs.lemmas.List.{get_or-set_same, get_or-set_other, get_or-map
 use Rattle.std.proofs.lemmas.Simd.{get_or-put_chunk_below, get_or-put_chunk_at, get_or-put_chunk_above, get_or-chunk, length-chunk, length-zip2, get_or-zip2}
 use Rattle.std.specs.Int.{w64}
 use Rattle.pim_io.specs.Lanes.{is_set, lane}
-use Rattle.pim_lanes.specs.Rules.{Ruled, complement, nor1_word, nor2_word, rm3_word}
+use Rattle.pim_lanes.specs.inner.Rules.{Ruled, complement, nor1_word, nor2_word, rm3_word}
 use Rattle.pim_lanes.proofs.BitLemmas.{is_set-zero, is_set-ones}
 
 -- nothing is done yet

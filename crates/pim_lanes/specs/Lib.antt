@@ -1,5 +1,3 @@
-pub mod Rules
-pub mod Columns
 pub mod Banks
 pub mod Lending
-pub mod Parts
+pub mod inner

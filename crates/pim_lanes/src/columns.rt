@@ -1,7 +1,7 @@
 ghost use Rattle.std.specs.Prelude.{◌≡◌, ◌≢◌, ℕ, ◌+◌, ◌-◌, ◌*◌, ◌<◌, ◌≤◌, ◌&&◌, ◌||◌, ◌++◌, not, true, List, length, take, drop, replicate};
 ghost use Rattle.pim_isa.specs.Steps.{majority};
 ghost use Rattle.pim_io.specs.Lanes.{lane, column_in};
-ghost use Rattle.pim_lanes.specs.Columns.{Stored};
+ghost use Rattle.pim_lanes.specs.inner.Columns.{Stored};
 
 use crate::kernels::{nor1_into, nor2_into, ones_into, rm3_into};
 

@@ -1,7 +1,7 @@
 ghost use Rattle.std.specs.Prelude.{◌≡◌, ℕ, ◌+◌, ◌*◌, ◌<◌, ◌≤◌, ◌&&◌, ◌||◌, not, true, length};
 ghost use Rattle.pim_isa.specs.Steps.{majority};
 ghost use Rattle.pim_io.specs.Lanes.{lane};
-ghost use Rattle.pim_lanes.specs.Rules.{Ruled, nor1_word, nor2_word, rm3_word};
+ghost use Rattle.pim_lanes.specs.inner.Rules.{Ruled, nor1_word, nor2_word, rm3_word};
 
 use std::simd::prelude::*;
 

@@ -1,6 +1,6 @@
 ghost use Rattle.std.specs.Prelude.{◌≡◌, ◌-◌, ◌≤◌, take, drop, vec_len};
 ghost use Rattle.std.specs.Borrow.{sem};
-ghost use Rattle.pim_lanes.specs.Parts.{LendsWords, LendsPart};
+ghost use Rattle.pim_lanes.specs.inner.Parts.{LendsWords, LendsPart};
 
 use std::slice::{from_raw_parts, from_raw_parts_mut};
 

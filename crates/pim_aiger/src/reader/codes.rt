@@ -1,6 +1,7 @@
 ghost use Rattle.std.specs.Prelude.{◌+◌, ◌<◌, IfOk};
-ghost use Rattle.pim_aiger.specs.Steps.{Gives};
+ghost use Rattle.pim_io.specs.Readings.{Gives};
 ghost use Rattle.pim_aiger.specs.Deltas.{delta_at, binary_gate_at};
+ghost use Rattle.pim_net.specs.declared.limits.TheConstants.{MAX_SIGNALS};
 
 use super::Reader;
 use crate::fault::AigerFault;
@@ -13,7 +14,7 @@ impl<'a> Reader<'a> {
     /// How far the next literal of a binary gate is below the one before it.
     #[tactic(auto, unfolding(crate::specs::Deltas::delta_at))]
     fn delta(&mut self) -> Result<u32, AigerFault>
-        ensures { Gives (λ delta. (delta, self.new)) result (delta_at self.old) }
+        ensures { Gives AigerFault.NoMemory (λ delta. (delta, self.new)) result (delta_at self.old) }
     {
         match get_code(self.rest, 0) {
             Code::Got { value, next } => {
@@ -33,9 +34,9 @@ impl<'a> Reader<'a> {
         inputs: u32,
         k: u32,
     ) -> Result<Equation, AigerFault>
-        requires { inputs + k + 1 < 1048576 }
-        ensures exact { Gives (λ gate. (gate, self.new)) result (binary_gate_at inputs k self.old) }
-        ensures below { IfOk result (λ gate. gate.sig < 1048576) }
+        requires { inputs + k + 1 < MAX_SIGNALS }
+        ensures exact { Gives AigerFault.NoMemory (λ gate. (gate, self.new)) result (binary_gate_at inputs k self.old) }
+        ensures below { IfOk result (λ gate. gate.sig < MAX_SIGNALS) }
     {
         let variable = inputs + k + 1;
         let place = self.place;

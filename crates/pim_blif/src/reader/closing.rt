@@ -1,9 +1,10 @@
-ghost use Rattle.std.specs.Prelude.{◌≡◌, ◌≤◌, ◌^◌, ◌⊎◌, map};
+ghost use Rattle.std.specs.Prelude.{◌≡◌, ◌≤◌, ◌⊎◌, map};
+ghost use Rattle.pim_io.specs.Readings.{Gives};
 ghost use Rattle.pim_io.specs.Names.{label};
 ghost use Rattle.pim_net.specs.Netlist.{draft_of};
-ghost use Rattle.pim_blif.specs.Readers.{words_used};
-ghost use Rattle.pim_blif.specs.Files.{outcome};
-ghost use Rattle.pim_blif.specs.Steps.{Gives};
+ghost use Rattle.pim_net.specs.declared.limits.TheConstants.{MAX_EQUATIONS};
+ghost use Rattle.pim_blif.specs.inner.Readers.{words_used};
+ghost use Rattle.pim_blif.specs.inner.Judging.{outcome};
 
 use super::Reader;
 use crate::fault::BlifFault;
@@ -29,13 +30,13 @@ impl<'a> Reader<'a> {
     /// The netlist of the statements that were read, where there was one and the netlist has no fault.
     #[tactic(auto, unfolding(crate::specs::Files::judged_net))]
     pub(crate) fn net(mut self) -> Result<Net, BlifFault>
-        requires { words_used self ≤ 2 ^ 28 }
-        ensures { Gives draft_of result (outcome self.entry) }
+        requires { words_used self ≤ MAX_EQUATIONS }
+        ensures { Gives BlifFault.NoMemory draft_of result (outcome self.entry) }
     {
         if !self.started {
             return Err(BlifFault::Syntax(1));
         }
-        self.end_cover()?;
+        self.close_cover()?;
         match Net::check(self.alloc, self.draft) {
             Ok(net) => Ok(net),
             Err(fault) => Err(labelled(self.alloc, &self.names, fault)),

@@ -1,15 +1,15 @@
-ghost use Rattle.std.specs.Prelude.{◌≡◌, ◌+◌, ◌<◌, ◌≤◌, ◌^◌, ℕ, List, All, Ok, Err, None, Some, length, take, IfOk, OnOk, if◌then◌else◌};
-ghost use Rattle.pim_io.specs.Names.{label};
-ghost use Rattle.pim_blif.specs.Reading.{texts};
-ghost use Rattle.pim_blif.specs.Readers.{words_used};
-ghost use Rattle.pim_blif.specs.Judging.{allowed, directed, judged, without_cover};
+ghost use Rattle.std.specs.Prelude.{◌≡◌, ◌+◌, ◌<◌, ◌≤◌, None, length, option_map, IfOk, OnOk};
+ghost use Rattle.pim_io.specs.Readings.{Gives};
+ghost use Rattle.pim_net.specs.declared.limits.TheConstants.{MAX_EQUATIONS};
 ghost use Rattle.pim_blif.specs.StatementFaults.{unsupported};
-ghost use Rattle.pim_blif.specs.Steps.{Gives};
+ghost use Rattle.pim_blif.specs.inner.Found.{directive_view};
+ghost use Rattle.pim_blif.specs.inner.Readers.{words_used};
+ghost use Rattle.pim_blif.specs.inner.Judging.{allowed, directed, judged, without_cover};
 
 use super::Reader;
 use crate::directive::Directive;
 use crate::fault::BlifFault;
-use crate::words::{arguments, first_word};
+use crate::statement::Statement;
 use pim_io::{MAX_NAME, Name, NoMemory};
 use std::alloc::Global;
 
@@ -23,42 +23,35 @@ fn unsupported(alloc: Global, line: u32, word: &[u8]) -> Result<BlifFault, NoMem
 }
 
 impl<'a> Reader<'a> {
-    /// Takes up a statement of a line with these words, or finds its fault. Linear in the words and their bytes.
-    pub(crate) fn take(&mut self, line: u32, words: &[&'a [u8]]) -> Result<(), BlifFault>
-        requires some { 0 < length words.now }
-        requires bytes { All (λ (word : List ℕ). 0 < length word) (texts words.now) }
-        requires room { words_used self.old + length words.now ≤ 2 ^ 28 }
-        ensures exact { Gives (λ _. self.new) result (judged self.old line (texts words.now)) }
-        ensures used { OnOk result (words_used self.new ≤ words_used self.old + length words.now) }
+    /// Takes up a statement, or finds its fault. Linear in its words and their bytes.
+    pub(crate) fn take(&mut self, statement: &Statement<'a, '_>) -> Result<(), BlifFault>
+        requires { words_used self.old + length statement.now.words ≤ MAX_EQUATIONS }
+        ensures exact { Gives BlifFault.NoMemory (λ _. self.new) result (judged self.old statement.now.line statement.now.words) }
+        ensures used { OnOk result (words_used self.new ≤ words_used self.old + length statement.now.words) }
     {
-        let directive = Directive::of(first_word(words));
-        self.allow(line, words, directive)?;
+        let directive = statement.directive();
+        self.allow(statement, directive)?;
         match directive {
-            None => self.add_row(line, words),
+            None => self.add_row(statement.line(), statement.words()),
             Some(directive) => {
-                self.end_cover()?;
-                self.direct(line, words, directive)
+                self.close_cover()?;
+                self.direct(statement, directive)
             }
         }
     }
 
     /// Whether a statement may stand: `.model` stands before every other statement, and behind `.end` no other may stand.
-    fn allow(
-        &self,
-        line: u32,
-        words: &[&[u8]],
-        directive: Option<Directive>,
-    ) -> Result<(), BlifFault>
-        requires some { 0 < length words.now }
-        requires bytes { All (λ (word : List ℕ). 0 < length word) (texts words.now) }
-        ensures { Gives (λ _. self.now) result (allowed line self.now (texts words.now) directive) }
+    fn allow(&self, statement: &Statement, directive: Option<Directive>) -> Result<(), BlifFault>
+        ensures { Gives BlifFault.NoMemory (λ _. self.now) result
+            (allowed statement.now.line self.now statement.now.words (option_map directive_view directive)) }
     {
         if directive == Some(Directive::Model) {
             if self.started {
-                return Err(unsupported(self.alloc, line, first_word(words))?);
+                let word = statement.first_word();
+                return Err(unsupported(self.alloc, statement.line(), word)?);
             }
         } else if self.ended {
-            return Err(BlifFault::Syntax(line));
+            return Err(BlifFault::Syntax(statement.line()));
         }
         Ok(())
     }
@@ -66,27 +59,28 @@ impl<'a> Reader<'a> {
     /// Takes up a directive that may stand, where no cover is open.
     fn direct(
         &mut self,
-        line: u32,
-        words: &[&'a [u8]],
+        statement: &Statement<'a, '_>,
         directive: Directive,
     ) -> Result<(), BlifFault>
-        requires some { 0 < length words.now }
-        requires bytes { All (λ (word : List ℕ). 0 < length word) (texts words.now) }
-        requires few { length words.now ≤ 2 ^ 28 }
+        requires few { length statement.now.words ≤ MAX_EQUATIONS }
         requires closed { self.old.cover ≡ None }
-        ensures exact { Gives (λ _. self.new) result (directed line self.old (texts words.now) directive) }
-        ensures used { OnOk result (words_used self.new ≤ words_used self.old + length words.now) }
+        ensures exact { Gives BlifFault.NoMemory (λ _. self.new) result
+            (directed statement.now.line self.old statement.now.words (directive_view directive)) }
+        ensures used { OnOk result (words_used self.new ≤ words_used self.old + length statement.now.words) }
     {
+        let line = statement.line();
         match directive {
             Directive::Model | Directive::PassedOver => Ok(()),
-            Directive::Inputs => self.add_inputs(line, arguments(words)),
-            Directive::Outputs => self.add_outputs(arguments(words)),
-            Directive::Names => self.begin_cover(line, arguments(words)),
+            Directive::Inputs => self.add_inputs(line, statement.arguments()),
+            Directive::Outputs => self.add_outputs(statement.arguments()),
+            Directive::Names => self.begin_cover(line, statement.arguments()),
             Directive::End => {
                 self.ended = true;
                 Ok(())
             }
-            Directive::Unsupported => Err(unsupported(self.alloc, line, first_word(words))?),
+            Directive::Unsupported => {
+                Err(unsupported(self.alloc, line, statement.first_word())?)
+            }
         }
     }
 }

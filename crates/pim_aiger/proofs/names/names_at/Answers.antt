@@ -1,6 +1,8 @@
 use Rattle.std.proofs.Common.{◌≡◌, ◌+◌, [], sym, ap, ◌∙◌, arith}
+use Rattle.pim_io.specs.declared.limits.TheConstants.{MAX_PROGRAM}
 use Rattle.pim_io.specs.Lines.{line_view, lines_left}
 use Rattle.pim_aiger.specs.SymbolTable.{then_names, with_line, symbols_of, no_names}
+use Rattle.pim_aiger.specs.inner.Views.{header_view}
 use Rattle.pim_aiger.proofs.FirstLine.{first_line_starts, stays_within}
 use Rattle.pim_aiger.proofs.Symbols.{line_added}
 use Rattle.pim_aiger.proofs.names.names_at.Goals as goal
@@ -11,7 +13,7 @@ overflow_add-place c =
 
 pub loop-line-preserved : goal.loop-line-preserved
 loop-line-preserved c =
-    let header = c.args.header.now in
+    let header = header_view c.args.header.now in
     let place = c.args.place in
     let names = c.loop-line.names in
     let line = c.in-Some.line in
@@ -21,5 +23,5 @@ loop-line-preserved c =
     record {
       exact = sym (line_added header (place + line.start) text names others c.add.new.self (sym c.if-is_comment.ensures) (sym c.if-is_empty.ensures) c.in_ok-add.ensures.exact) ∙ so_far;
       sized = c.in_ok-add.ensures.sized;
-      within = stays_within place 536870912 c.loop-line.scan c.line.new.self (line_view line) c.loop-line.invariant.within c.in-Some.ensures.lines c.in-Some.ensures.after;
+      within = stays_within place MAX_PROGRAM c.loop-line.scan c.line.new.self (line_view line) c.loop-line.invariant.within c.in-Some.ensures.lines c.in-Some.ensures.after;
     }

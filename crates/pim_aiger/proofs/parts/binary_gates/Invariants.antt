@@ -2,7 +2,7 @@ use Rattle.std.proofs.Common.{◌≡◌, ◌-◌, ◌+◌, ◌∷◌, [], length
 use Rattle.pim_aiger.specs.Literals.{constant}
 use Rattle.pim_aiger.specs.Deltas.{binary_gate_at}
 use Rattle.pim_aiger.specs.Steps.{many, with_front}
-use Rattle.pim_aiger.specs.Files.{IsGates}
+use Rattle.pim_aiger.specs.inner.Kept.{IsGates}
 use Rattle.pim_aiger.proofs.parts.binary_gates.Given as goal
 
 abbrev pub invariant-loop-k : goal.invariant-loop-k

@@ -2,6 +2,7 @@ use Rattle.std.proofs.Common.{◌<◌, arith}
 use Rattle.std.proofs.lemmas.Result.{err_from_is_err_and}
 use Rattle.std.proofs.lemmas.List.{length_push}
 use Rattle.std.proofs.lemmas.List.Elements.{All-push}
+use Rattle.pim_net.specs.declared.limits.TheConstants.{MAX_SIGNALS}
 use Rattle.pim_aiger.specs.Literals.{input_at}
 use Rattle.pim_aiger.proofs.Many.{goes_on, ends, is_done}
 use Rattle.pim_aiger.proofs.parts.inputs.Goals as goal
@@ -9,14 +10,14 @@ use Rattle.pim_aiger.proofs.parts.inputs.Goals as goal
 pub returns-in_err-input-clause-exact : goal.returns-in_err-input-clause-exact
 returns-in_err-input-clause-exact c =
     let p = err_from_is_err_and c.from_residual.result c.from_residual.ensures.1 in
-    rw (p.1, p.2) (ends (λ k. input_at c.args.header.now.most) c.loop.inputs.items c.args.header.now.inputs c.loop.counter c.loop.reader _ c.in_err-input.field-0.0 c.loop-test.true c.in_err-input.ensures.exact c.loop.invariant.exact)
+    rw (p.1, p.2) (ends (λ k. input_at c.args.header.now.greatest) c.loop.inputs.items c.args.header.now.inputs c.loop.counter c.loop.reader _ c.in_err-input.field-0.0 c.loop-test.true c.in_err-input.ensures.exact c.loop.invariant.exact)
 
 pub loop-preserved : goal.loop-preserved
 loop-preserved c = record {
-  exact = rw c.in_ok-push.ensures.items (goes_on (λ k. input_at c.args.header.now.most) c.loop.inputs.items c.args.header.now.inputs c.loop.counter c.loop.reader _ c.in_ok-input.input c.input.new.self c.loop-test.true c.in_ok-input.ensures.exact c.loop.invariant.exact);
+  exact = rw c.in_ok-push.ensures.items (goes_on (λ k. input_at c.args.header.now.greatest) c.loop.inputs.items c.args.header.now.inputs c.loop.counter c.loop.reader _ c.in_ok-input.input c.input.new.self c.loop-test.true c.in_ok-input.ensures.exact c.loop.invariant.exact);
   count = rw c.in_ok-push.ensures.items (omega (arith, length_push c.loop.inputs.items c.in_ok-input.input, c.loop.invariant.count));
-  below = rw c.in_ok-push.ensures.items (All-push (λ v. v < 1048576) c.loop.inputs.items c.in_ok-input.input c.loop.invariant.below c.in_ok-input.ensures.below);
+  below = rw c.in_ok-push.ensures.items (All-push (λ v. v < MAX_SIGNALS) c.loop.inputs.items c.in_ok-input.input c.loop.invariant.below c.in_ok-input.ensures.below);
 }
 
 pub returns-clause-exact : goal.returns-clause-exact
-returns-clause-exact c = is_done (λ k. input_at c.args.header.now.most) c.loop.inputs.items c.args.header.now.inputs c.loop.counter c.loop.reader _ c.loop-test.false c.loop.invariant.exact
+returns-clause-exact c = is_done (λ k. input_at c.args.header.now.greatest) c.loop.inputs.items c.args.header.now.inputs c.loop.counter c.loop.reader _ c.loop-test.false c.loop.invariant.exact

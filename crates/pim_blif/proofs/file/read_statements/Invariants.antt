@@ -1,8 +1,8 @@
 use Rattle.std.proofs.Common.{◌≡◌, ◌+◌, ◌*◌, ◌^◌, ◌≤◌, []}
 use Rattle.pim_blif.specs.Statements.{statements}
-use Rattle.pim_blif.specs.Reading.{room, statements_left}
-use Rattle.pim_blif.specs.Readers.{words_used}
-use Rattle.pim_blif.specs.Judging.{known_from, known_after}
+use Rattle.pim_blif.specs.inner.Reading.{room, statements_left}
+use Rattle.pim_blif.specs.inner.Readers.{words_used}
+use Rattle.pim_blif.specs.inner.Judging.{known_from, known_after}
 use Rattle.pim_blif.proofs.file.read_statements.Given as goal
 
 abbrev pub invariant-loop-walk : goal.invariant-loop-walk

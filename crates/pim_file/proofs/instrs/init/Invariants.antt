@@ -1,5 +1,6 @@
 use Rattle.std.proofs.Common.{◌≡◌, ◌++◌, length, option_map}
-use Rattle.pim_file.specs.Fields.{fields_left, numbers_of}
+use Rattle.pim_file.specs.inner.FieldWalks.{fields_left}
+use Rattle.pim_file.specs.Fields.{numbers_of}
 use Rattle.pim_file.proofs.instrs.init.Given as goal
 
 -- the cells so far, before those of the fields that are left, are the cells of all fields

@@ -1,7 +1,8 @@
 use Rattle.std.proofs.Common.{◌≡◌, rules}
 use Rattle.pim_io.specs.Lines.{lines}
 use Rattle.pim_file.specs.Reading.{start}
-use Rattle.pim_file.specs.ProgramFile.{read_from, within_limit}
+use Rattle.pim_file.specs.ProgramFile.{read_from}
+use Rattle.pim_file.specs.inner.Kept.{within_limit}
 use Rattle.pim_file.proofs.Laws.{kept_has_few}
 use Rattle.pim_file.proofs.parsing.draft.Goals as goal
 

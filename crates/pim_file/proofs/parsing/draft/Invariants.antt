@@ -1,6 +1,7 @@
 use Rattle.std.proofs.Common.{◌≡◌, length}
 use Rattle.pim_io.specs.Lines.{lines_left}
-use Rattle.pim_file.specs.ProgramFile.{read_from, within_limit}
+use Rattle.pim_file.specs.ProgramFile.{read_from}
+use Rattle.pim_file.specs.inner.Kept.{within_limit}
 use Rattle.pim_file.proofs.parsing.draft.Given as goal
 
 -- the lines that are left lead from here to what all lines lead to from the start

@@ -1,4 +1,4 @@
-use Rattle.pim_lanes.specs.Rules.{nor1_word}
+use Rattle.pim_lanes.specs.inner.Rules.{nor1_word}
 use Rattle.pim_lanes.proofs.RuleLemmas.{ruled_none, vector_next}
 use Rattle.pim_lanes.proofs.kernels.nor1_vectors.Goals as goal
 

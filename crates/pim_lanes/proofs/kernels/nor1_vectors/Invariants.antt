@@ -1,5 +1,5 @@
 use Rattle.std.proofs.Common.{◌*◌}
-use Rattle.pim_lanes.specs.Rules.{Ruled, nor1_word}
+use Rattle.pim_lanes.specs.inner.Rules.{Ruled, nor1_word}
 use Rattle.pim_lanes.proofs.kernels.nor1_vectors.Given as goal
 
 -- the words of the vectors so far are done

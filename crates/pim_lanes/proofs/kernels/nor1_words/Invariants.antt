@@ -1,4 +1,4 @@
-use Rattle.pim_lanes.specs.Rules.{Ruled, nor1_word}
+use Rattle.pim_lanes.specs.inner.Rules.{Ruled, nor1_word}
 use Rattle.pim_lanes.proofs.kernels.nor1_words.Given as goal
 
 -- the words from the place on so far are done

@@ -1,5 +1,5 @@
 use Rattle.std.proofs.Common.{Bool, ◌&&◌, ◌||◌, not, refl}
-use Rattle.pim_lanes.specs.Rules.{nor2_word}
+use Rattle.pim_lanes.specs.inner.Rules.{nor2_word}
 use Rattle.pim_lanes.proofs.BitLemmas.{nor2_bit}
 use Rattle.pim_lanes.proofs.RuleLemmas.{ruled_whole, lanes_ruled}
 use Rattle.pim_lanes.proofs.kernels.nor2_into.Goals as goal

@@ -1,5 +1,5 @@
 use Rattle.std.proofs.Common.{arith}
-use Rattle.pim_lanes.specs.Rules.{nor2_word}
+use Rattle.pim_lanes.specs.inner.Rules.{nor2_word}
 use Rattle.pim_lanes.proofs.RuleLemmas.{ruled_none, word_next}
 use Rattle.pim_lanes.proofs.kernels.nor2_words.Goals as goal
 

@@ -1,6 +1,6 @@
 use Rattle.std.proofs.Common.{Bool, not, refl}
 use Rattle.pim_isa.specs.Steps.{majority}
-use Rattle.pim_lanes.specs.Rules.{rm3_word}
+use Rattle.pim_lanes.specs.inner.Rules.{rm3_word}
 use Rattle.pim_lanes.proofs.BitLemmas.{rm3_bit}
 use Rattle.pim_lanes.proofs.RuleLemmas.{ruled_whole, lanes_ruled}
 use Rattle.pim_lanes.proofs.kernels.rm3_into.Goals as goal

@@ -1,4 +1,4 @@
-use Rattle.pim_lanes.specs.Rules.{rm3_word}
+use Rattle.pim_lanes.specs.inner.Rules.{rm3_word}
 use Rattle.pim_lanes.proofs.RuleLemmas.{ruled_none, vector_next}
 use Rattle.pim_lanes.proofs.kernels.rm3_vectors.Goals as goal
 

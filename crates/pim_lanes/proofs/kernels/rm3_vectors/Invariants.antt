@@ -1,5 +1,5 @@
 use Rattle.std.proofs.Common.{◌*◌}
-use Rattle.pim_lanes.specs.Rules.{Ruled, rm3_word}
+use Rattle.pim_lanes.specs.inner.Rules.{Ruled, rm3_word}
 use Rattle.pim_lanes.proofs.kernels.rm3_vectors.Given as goal
 
 -- the words of the vectors so far are done

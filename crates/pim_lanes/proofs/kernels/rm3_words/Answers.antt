@@ -1,5 +1,5 @@
 use Rattle.std.proofs.Common.{arith}
-use Rattle.pim_lanes.specs.Rules.{rm3_word}
+use Rattle.pim_lanes.specs.inner.Rules.{rm3_word}
 use Rattle.pim_lanes.proofs.RuleLemmas.{ruled_none, word_next}
 use Rattle.pim_lanes.proofs.kernels.rm3_words.Goals as goal
 

@@ -1,4 +1,4 @@
-use Rattle.pim_lanes.specs.Rules.{Ruled, rm3_word}
+use Rattle.pim_lanes.specs.inner.Rules.{Ruled, rm3_word}
 use Rattle.pim_lanes.proofs.kernels.rm3_words.Given as goal
 
 -- the words from the place on so far are done

@@ -36,7 +36,7 @@ use denote.Triple.Table.{framed}
 use denote.Triple.Walked.{Stays, stay_dropped, Goes-dropped, Goes-spent_ref, walk_of, ends_at}
 use borrow.Table.Elements.{at, at_mul}
 use Rattle.std.specs.Vec.{with_items}
-use Rattle.pim_lanes.specs.Parts.{words_row}
+use Rattle.pim_lanes.specs.inner.Parts.{words_row}
 use Rattle.pim_lanes.proofs.PartLends.{lends_part, front, part, back, wrote, length-front, length-part, length-back}
 use Rattle.pim_lanes.specs.contracts.parts.part_mut as f
 use Rattle.pim_lanes.proofs.parts.part_mut.Statement.{statement}

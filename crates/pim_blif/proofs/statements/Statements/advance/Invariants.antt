@@ -1,7 +1,7 @@
 use Rattle.std.proofs.Common.{◌≡◌, ◌≤◌, None, length}
 use Rattle.pim_io.specs.Lines.{lines_left}
 use Rattle.pim_blif.specs.Statements.{statements_after}
-use Rattle.pim_blif.specs.Reading.{room}
+use Rattle.pim_blif.specs.inner.Reading.{room}
 use Rattle.pim_blif.proofs.statements.Statements.advance.Given as goal
 
 abbrev pub invariant-loop-line : goal.invariant-loop-line

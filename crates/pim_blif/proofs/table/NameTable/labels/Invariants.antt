@@ -1,6 +1,6 @@
 use Rattle.std.proofs.Common.{◌≡◌, map, take}
 use Rattle.pim_io.specs.Names.{label}
-use Rattle.pim_blif.specs.Reading.{texts}
+use Rattle.pim_blif.specs.inner.Reading.{texts}
 use Rattle.pim_blif.proofs.table.NameTable.labels.Given as goal
 
 abbrev pub invariant-loop-name : goal.invariant-loop-name

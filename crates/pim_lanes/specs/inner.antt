@@ -1,0 +1,4 @@
+-- Definitions that only private functions cite.
+pub mod Rules
+pub mod Columns
+pub mod Parts
