@@ -5,6 +5,8 @@ use Rattle.pim_compile.specs.declared.refusal.Refusal.TheVariants as compiler
 use Rattle.pim_words.specs.declared.command.Command.TheVariants as commands
 use Rattle.pim_words.specs.declared.command.LevelWord.{LevelWord}
 use Rattle.pim_words.specs.declared.command.TargetWord.{TargetWord}
+use Rattle.pim_words.specs.declared.command.LevelWord.TheVariants as levels
+use Rattle.pim_words.specs.declared.command.TargetWord.TheVariants as targets
 use Rattle.pim_top.specs.Decides.{Decides}
 use Rattle.pim_top.specs.Statuses.{answer_status, compiler_status, judgement_status}
 use Rattle.pim_top.specs.commands.Compile.{CompileAnswers, CompilesFine, IsUncompiled}
@@ -21,12 +23,13 @@ abbrev IsFineStatus : Status → Type 0
 IsFineStatus s = (s ≡ status.Done) ⊎ (s ≡ status.NoMemory)
 
 uncompiled : (target : TargetWord) (level : LevelWord) (budget : ℕ) (bytes : List ℕ) (r : Compiler) → CompilesFine target level budget bytes → IsUncompiled target level budget bytes r → IsFineStatus (compiler_status r)
-uncompiled target level budget bytes (compiler.TooFewCells needed) fine h =
+uncompiled targets.Magic levels.Zero budget bytes (compiler.TooFewCells needed) fine h =
     let e = fine.enough h.net h.checked (let a = h.is_net in let b = fine.is_net in cc) in
-    absurd (let r = h.right in let z : ⊥ = omega (arith, e.enough, r.1, r.2) in z)
-uncompiled target level budget bytes compiler.TooLarge fine h =
+    let short = h.right.0 in
+    absurd (let z : ⊥ = omega (arith, e.enough, short.is, short.below) in z)
+uncompiled targets.Magic levels.Zero budget bytes compiler.TooLarge fine h =
     let e = fine.enough h.net h.checked (let a = h.is_net in let b = fine.is_net in cc) in
-    absurd (let r = h.right in let z : ⊥ = omega (arith, e.few, r) in z)
+    absurd (let r = h.right.0 in let z : ⊥ = omega (arith, e.few, r) in z)
 uncompiled target level budget bytes compiler.NoMemory fine h = inr refl
 
 judged : (target : TargetWord) (level : LevelWord) (budget : ℕ) (bytes : List ℕ) (j : Judgement) → CompilesFine target level budget bytes → CompileAnswers target level budget bytes (Err j) → IsFineStatus (judgement_status j)

@@ -1,7 +1,7 @@
 -- What `compile` says of a netlist's bytes.
 use Rattle.std.specs.Prelude.{◌≡◌, ◌≤◌, ℕ, List, Result, Ok, Err, length}
 use Rattle.pim_compile.specs.Computes.{Computes}
-use Rattle.pim_compile.specs.Refusals.{IsAccepted, IsRefusal}
+use Rattle.pim_compile.specs.Refusals.{IsAccepted, IsCoarse, IsRefusal}
 use Rattle.pim_compile.specs.declared.compiling.Level.{Level}
 use Rattle.pim_compile.specs.declared.compiling.Level.TheVariants as efforts
 use Rattle.pim_compile.specs.declared.compiling.Target.{Target}
@@ -38,11 +38,11 @@ machine_of targets.Magic = isa.Magic
 
 -- the budget is enough for the netlist, and its flat graph is within the limit
 abbrev pub IsEnough : TargetWord → LevelWord → ℕ → NetView → Type 0
-IsEnough target level budget net = IsAccepted net budget
+IsEnough target level budget net = IsAccepted net (target_of target) (level_of level) budget
 
 -- the compiler refuses the netlist rightly so
 abbrev pub IsRefusedFor : TargetWord → LevelWord → ℕ → NetView → Refusal → Type 0
-IsRefusedFor target level budget net refusal = IsRefusal net budget refusal
+IsRefusedFor target level budget net refusal = IsRefusal net (target_of target) budget refusal × IsCoarse net (target_of target) budget refusal
 
 -- the written bytes are the text of a program for the target that computes the netlist of the bytes, from every earlier content of
 -- the other cells; it names no cell beyond the budget and primes every NOR target; the budget is enough for the netlist
