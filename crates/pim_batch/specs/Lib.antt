@@ -1,3 +1,4 @@
+pub mod Runners
 pub mod Tables
 pub mod Batches
 pub mod inner

@@ -5,6 +5,7 @@ use Rattle.pim_io.specs.Bits.{line_of}
 use Rattle.pim_isa.specs.Programs.{ProgramView}
 use Rattle.pim_isa.specs.Results.{result_of}
 use Rattle.pim_isa.specs.declared.target.Fill.{Fill}
+use Rattle.pim_batch.specs.Runners.{Runner}
 
 -- the line that a program gives for the bits of a vector
 abbrev pub result_line : ProgramView → Fill → List Bool → List ℕ
@@ -21,3 +22,7 @@ tile_words p = if nat_le p.cells 65536 && nat_le (length p.outputs) 65536 then 6
 -- how many rows are executed together
 abbrev pub tile_rows : ProgramView → ℕ
 tile_rows p = 64 * tile_words p
+
+-- a program on rows of which each begins with the filling in all cells that are no inputs
+abbrev pub runner_of : ProgramView → Fill → Runner
+runner_of p fill = record { width = length p.inputs; tile = tile_rows p; result = result_line p fill }

@@ -4,7 +4,7 @@ ghost use Rattle.pim_io.specs.Outside.{Wrote};
 ghost use Rattle.pim_vectors.specs.Tiles.{IsVector};
 ghost use Rattle.pim_batch.specs.Tables.{table, tile_rows, tile_words};
 
-use crate::{lines, rows};
+use crate::{Executor, lines, rows};
 use pim_io::{NoMemory, Sink, SinkFault};
 use pim_isa::{Fill, Program};
 use pim_lanes::Bank;
@@ -69,37 +69,30 @@ impl<'a> Batch<'a> {
             most: 64 * words as u32,
         })
     }
+}
 
-    /// Whether no further vector can be packed.
-    pub fn is_full(&self) -> bool
-        ensures full { IsTrue result ↔ (length self.now.vectors ≡ tile_rows self.now.program) }
-        ensures within { length self.now.vectors ≤ tile_rows self.now.program }
-    {
+impl<'a> Executor for Batch<'a> {
+    ghost use Rattle.pim_batch.specs.Tables.{runner_of};
+
+    ghost runner = { λ b. runner_of b.program b.fill };
+
+    ghost rows = { λ b. b.vectors };
+
+    fn is_full(&self) -> bool {
         self.rows == self.most
     }
 
-    /// Packs one more vector, a line of the characters `0` and `1`. Linear in the line.
-    pub fn push(&mut self, line: &[u8])
-        requires vector { IsVector (length self.old.program.inputs) line.now }
-        requires room { length self.old.vectors < tile_rows self.old.program }
-        ensures { self.new ≡ record self.old { vectors = self.old.vectors ++ bits_of line.now ∷ [] } }
-    {
+    /// Linear in the line.
+    fn push(&mut self, line: &[u8]) {
         self.vectors.pack(self.rows, line);
         self.rows += 1;
     }
 
-    /// Executes the vectors that are packed and writes a line of the characters `0` and `1` for each, in order; none is packed then.
-    /// After a fault the vectors are still packed, and a second call would write those lines again that the sink took: drop the
-    /// batch. Where none is packed nothing is executed. Else the program runs once, in all rows of the tile: a kernel or two for each
-    /// instruction and one for each cell that an Init names. Beside that the cost is linear in the cells and outputs and in the
-    /// characters that are written: as many whole lines at once as 64 KiB hold, or one. Takes no memory.
-    pub fn flush<K: Sink>(&mut self, output: &mut K) -> Result<(), SinkFault>
-        ensures wrote { Wrote result (K.taken output.old) (K.taken output.new) (K.faults output.old) (K.faults output.new)
-            (table self.old.program self.old.fill self.old.vectors) }
-        ensures never_falls { K.faults output.old ≤ K.faults output.new }
-        ensures emptied { OnOk result (self.new ≡ record self.old { vectors = [] }) }
-        ensures stays { OnErr result (self.new ≡ self.old) }
-    {
+    /// After a fault a second call would write those lines again that the sink took: drop the batch. Where none is packed nothing is
+    /// executed. Else the program runs once, in all rows of the tile: a kernel or two for each instruction and one for each cell that
+    /// an Init names. Beside that the cost is linear in the cells and outputs and in the characters that are written: as many whole
+    /// lines at once as 64 KiB hold, or one. Takes no memory.
+    fn flush<K: Sink>(&mut self, output: &mut K) -> Result<(), SinkFault> {
         if self.rows == 0 {
             return Ok(());
         }

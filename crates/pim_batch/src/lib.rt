@@ -3,9 +3,11 @@
 #![tactic(auto)]
 
 mod batch;
+mod executor;
 mod lines;
 mod rows;
 #[cfg(test)]
 mod tests;
 
 pub use batch::Batch;
+pub use executor::Executor;

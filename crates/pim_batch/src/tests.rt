@@ -1,6 +1,6 @@
 ghost use Rattle.std.specs.Prelude.{◌≡◌, length, IfOk};
 
-use crate::{Batch, lines};
+use crate::{Batch, Executor, lines};
 use pim_io::{MemSink, NoMemory};
 use pim_isa::{Cells, Fill, Ins, Instr, Program, ProgramDraft, Target};
 use pim_vectors::{Tile, vector_fits};
@@ -39,7 +39,7 @@ fn and_draft(alloc: Global) -> Result<ProgramDraft, NoMemory>
 /// Packs a vector of two bits.
 fn pack(rt: &impl Abort, batch: &mut Batch, line: &[u8])
     requires { length batch.old.program.inputs ≡ 2 }
-    ensures { batch.new.program ≡ batch.old.program }
+    ensures { length batch.new.program.inputs ≡ 2 }
 {
     assert!(rt; vector_fits(line, 2));
     assert!(rt; !batch.is_full());

@@ -1,7 +1,13 @@
-pub mod Took
-pub mod FileRefusals
-pub mod Walking
+mod Examples
+pub mod JudgedLines
+pub mod NextLine
+pub mod WalkStates
 pub mod WalkSteps
-pub mod Reading
-pub mod RunEnds
-pub mod CompileEnds
+pub mod Told
+pub mod StatusKinds
+pub mod Wholes
+pub mod RowsEnds
+pub mod CompileFine
+pub mod RunFine
+pub mod Clauses
+pub mod CycleLabels

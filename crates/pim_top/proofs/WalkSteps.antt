@@ -1,225 +1,187 @@
 -- One step of a walk: what the output took then, or why the walk ends.
-use Rattle.std.proofs.Common.{◌≡◌, ◌≢◌, ℕ, ◌+◌, ◌*◌, ◌<◌, ◌≤◌, Bool, true, false, List, [], ◌∷◌, ◌++◌, length, take, Option, Some, None, inl, inr, refl, sym, ap, ◌∙◌, subst, arith, append_assoc, append-nil, length-append}
+use Rattle.std.proofs.Common.{◌≡◌, ◌≢◌, ℕ, ◌+◌, ◌-◌, ◌*◌, ◌%◌, ◌<◌, ◌≤◌, Bool, true, false, List, [], ◌∷◌, ◌++◌, length, map, take, Option, Some, None, inl, inr, refl, sym, ap, ◌∙◌, subst, arith, append_assoc, append-nil, length-append, length-take}
+use Rattle.std.proofs.Math.Seq.{take-append-add}
 use Rattle.std.proofs.lemmas.Bool.{cases_lt}
-use Rattle.std.proofs.lemmas.Bool.Decides.{nat_tests}
-use Rattle.std.proofs.lemmas.List.{length-map}
+use Rattle.std.proofs.lemmas.Grind.{flat_map-append}
+use Rattle.std.proofs.lemmas.List.{length-map, map-append, take-append-le, take_all}
+use Rattle.std.proofs.lemmas.Nat.{mod-mul-add}
 use Rattle.pim_io.specs.Bits.{bits_of}
 use Rattle.pim_io.specs.Outside.{Rose, Told, TookAll, TookFirst}
-use Rattle.pim_isa.specs.Programs.{ProgramView}
-use Rattle.pim_isa.specs.declared.target.Fill.{Fill}
-use Rattle.pim_batch.specs.Batches.{BatchView}
-use Rattle.pim_batch.specs.Tables.{table, tile_rows}
+use Rattle.pim_batch.specs.Runners.{Runner, results}
 use Rattle.pim_vectors.specs.Lines.{lines}
-use Rattle.pim_top.specs.Runs.{VectorsRefuse}
-use Rattle.pim_top.specs.Vectors.{AreVectors, RanInPart, RanWhole, vectors_of, verdict}
-use Rattle.pim_top.specs.Walks.{Ends, IsRunning, IsWalk, Stops, TakesUp, WalkView, start, width}
+use Rattle.pim_vectors.specs.Next.{LinesView}
+use Rattle.pim_top.specs.Judged.{first_refusal, fitting_lines}
+use Rattle.pim_top.specs.Walks.{RanInPart, RanShort, RanTo, RanWhole, full_rows, rows_of, tiles_of}
+use Rattle.pim_top.specs.declared.judgement.Judgement.{Judgement}
 use Rattle.pim_top.specs.declared.refusal.Origin.TheVariants as origin
 use Rattle.pim_top.specs.declared.refusal.Refusal.{Refusal}
 use Rattle.pim_top.specs.declared.refusal.Refusal.TheVariants as refusal
-use Rattle.pim_top.proofs.Took.{then_first}
-use Rattle.pim_top.proofs.Walking.{refused-here, said-here, table-append, take-front, there, tiles-ran, told-map, walk-flushed, walk-more}
+use Rattle.pim_top.specs.inner.Standing.{Goes, IsEnd, IsOfLines, IsRefusedHere, IsRunning, IsWalk, Refuses, Stops, TakesUp, first_line}
+use Rattle.pim_top.proofs.WalkStates.{fits-front, told-map}
 
--- some rows make a tile
-pub tile-some : (p : ProgramView) → 0 < tile_rows p
-tile-some p = grind (arith, nat_tests)
+-- ---- what a sink took, piece by piece
+-- one piece after another
+took-both : (a b c : Option (List ℕ)) (p q : List ℕ) → TookAll a b p → TookAll b c q → TookAll a c (p ++ q)
+took-both None b c p q h k = tt
+took-both (Some x) None c p q h k = absurd h
+took-both (Some x) (Some y) None p q h k = absurd k
+took-both (Some x) (Some y) (Some z) p q h k = k ∙ ap (λ (t : List ℕ). t ++ q) h ∙ append_assoc x p q
 
--- the output where nothing is written
-same-told : (k : Option (List ℕ)) (P : List ℕ → List ℕ → Type 0) → ((taken : List ℕ) → P taken taken) → Told k k P
-same-told None P f = tt
-same-told (Some taken) P f = f taken
+-- a whole piece, and then the first bytes of another one
+then-first : (a b c : Option (List ℕ)) (p q : List ℕ) → TookAll a b p → TookFirst b c q → TookFirst a c (p ++ q)
+then-first None b c p q h k = tt
+then-first (Some x) None c p q h k = absurd h
+then-first (Some x) (Some y) None p q h k = absurd k
+then-first (Some x) (Some y) (Some z) p q h k =
+    let rest : List ℕ = take (length z - length y) q in
+    let ly : length y ≡ length x + length p = ap length h ∙ length-append x p in
+    let lz : length z ≡ length y + length rest = ap length k ∙ length-append y rest in
+    let n : length p + (length z - length y) ≡ length z - length x = omega arith in
+    k ∙ ap (λ (t : List ℕ). t ++ rest) h ∙ append_assoc x p rest
+    ∙ ap (λ (t : List ℕ). x ++ t) (sym (take-append-add p q (length z - length y)))
+    ∙ ap (λ (j : ℕ). x ++ take j (p ++ q)) n
 
--- the output where a piece was written
-took-told : (k l : Option (List ℕ)) (piece : List ℕ) (P : List ℕ → List ℕ → Type 0) → TookAll k l piece → ((taken now : List ℕ) → now ≡ taken ++ piece → P taken now) → Told k l P
-took-told None l piece P h f = tt
-took-told (Some taken) None piece P h f = absurd h
-took-told (Some taken) (Some now) piece P h f = f taken now h
+results-append : (runner : Runner) (xs ys : List (List Bool)) → results runner (xs ++ ys) ≡ results runner xs ++ results runner ys
+results-append runner xs ys = flat_map-append runner.result xs ys
 
-first-told : (k l : Option (List ℕ)) (piece : List ℕ) (P : List ℕ → List ℕ → Type 0) → TookFirst k l piece → ((taken now : List ℕ) → TookFirst (Some taken) (Some now) piece → P taken now) → Told k l P
-first-told None l piece P h f = tt
-first-told (Some taken) None piece P h f = absurd h
-first-told (Some taken) (Some now) piece P h f = f taken now h
+take-front : {X : Type 0} (xs ys : List X) (n : ℕ) → n ≡ length xs → take n (xs ++ ys) ≡ xs
+take-front xs ys n same = take-append-le n xs ys (omega arith) ∙ take_all n xs (omega arith)
 
-packed-program : (old new : WalkView) (left rest : List ℕ) → TakesUp old left rest new → new.batch.program ≡ old.batch.program
-packed-program old new left rest t = ap (λ (b : BatchView). b.program) t.packed
+-- ---- the tiles that were written
+tiles-took : (runner : Runner) (bytes rest : List ℕ) (before now : Option (List ℕ)) (l : LinesView) (rows : List (List Bool)) → length rows < runner.tile → (h : IsRunning runner bytes rest before now l rows) → TookAll before now (tiles_of runner (lines h.front))
+tiles-took runner bytes rest before now l rows room h =
+    let n = length (lines h.front) in
+    let size : n ≡ length h.gone + length rows = sym (length-map (lines h.front) bits_of) ∙ ap length h.cut ∙ length-append h.gone rows in
+    let whole : n ≡ h.tiles * runner.tile + length rows = size ∙ ap (λ (k : ℕ). k + length rows) h.full in
+    let left : n % runner.tile ≡ length rows = ap (λ (k : ℕ). k % runner.tile) whole ∙ mod-mul-add h.tiles runner.tile (length rows) room in
+    let full : full_rows runner n ≡ length h.gone = omega (arith, left, size) in
+    let front : take (full_rows runner n) (rows_of (lines h.front)) ≡ h.gone = ap (take (full_rows runner n)) h.cut ∙ take-front h.gone rows (full_rows runner n) full in
+    subst (λ (rs : List (List Bool)). TookAll before now (results runner rs)) (sym front) h.took
 
--- ---- a vector more, and the tile isn't full
-running-more : (bytes left rest before taken : List ℕ) (old new : WalkView) → TakesUp old left rest new → length new.batch.vectors < tile_rows new.batch.program → IsRunning bytes left before taken old → IsRunning bytes rest before taken new
-running-more bytes left rest before taken old new t room h =
-    let p = packed-program old new left rest t in
-    let f : new.batch.fill ≡ old.batch.fill = ap (λ (b : BatchView). b.fill) t.packed in
+-- the lines that were handed out all fit
+all-fit : (width : ℕ) (bytes rest front : List ℕ) (l : LinesView) → IsWalk width bytes rest l front → first_refusal width 0 None (lines front) ≡ None
+all-fit width bytes rest front l h = ap (first_refusal width 0 None) (sym (append-nil (lines front))) ∙ h.refusals None []
+
+-- a refusal before anything was written
+refused-to : (runner : Runner) (bytes left : List ℕ) (before taken : Option (List ℕ)) (l : LinesView) (rows : List (List Bool)) (r : Refusal) → length rows < runner.tile → (h : IsRunning runner bytes left before taken l rows) → IsRefusedHere runner.width bytes h.front r → RanTo runner bytes before taken r
+refused-to runner bytes left before taken l rows r room h s = record {
+  refused = s.refused;
+  took = subst (λ (ls : List (List ℕ)). TookAll before taken (tiles_of runner ls)) (sym s.fits) (tiles-took runner bytes left before taken l rows room h);
+}
+
+pub refused-here : (runner : Runner) (bytes left rest : List ℕ) (before taken : Option (List ℕ)) (l : LinesView) (rows : List (List Bool)) (r : Refusal) → r ≢ refusal.WriteFault → length rows < runner.tile → (h : IsRunning runner bytes left before taken l rows) → Stops runner.width bytes rest h.front r → Refuses runner bytes rest before taken r
+refused-here runner bytes left rest before taken l rows refusal.WriteFault other room h s = absurd (other refl)
+refused-here runner bytes left rest before taken l rows (refusal.ReadFault origin.Input) other room h s = record {
+  front = h.front;
+  held = s.held;
+  cut = s.cut;
+  whole = s.whole;
+  waits = s.waits;
+  short = s.short;
+  within = s.within;
+  fit = all-fit runner.width bytes left h.front l h.walk;
+  took = tiles-took runner bytes left before taken l rows room h;
+}
+refused-here runner bytes left rest before taken l rows (refusal.ReadFault origin.Program) other room h s = refused-to runner bytes left before taken l rows (refusal.ReadFault origin.Program) room h s
+refused-here runner bytes left rest before taken l rows refusal.Usage other room h s = refused-to runner bytes left before taken l rows refusal.Usage room h s
+refused-here runner bytes left rest before taken l rows refusal.NoMemory other room h s = refused-to runner bytes left before taken l rows refusal.NoMemory room h s
+refused-here runner bytes left rest before taken l rows (refusal.TooLong o) other room h s = refused-to runner bytes left before taken l rows (refusal.TooLong o) room h s
+refused-here runner bytes left rest before taken l rows (refusal.Judged j) other room h s = refused-to runner bytes left before taken l rows (refusal.Judged j) room h s
+
+-- ---- one row more
+-- the rows that are packed after one line more
+rows-more : (width : ℕ) (bytes rest front : List ℕ) (gone rows : List (List Bool)) (l : LinesView) (packed : List (List Bool)) → rows_of (lines front) ≡ gone ++ rows → (t : TakesUp width bytes rest front rows l packed) → rows_of (lines t.further) ≡ gone ++ packed
+rows-more width bytes rest front gone rows l packed cut t =
+    ap rows_of t.more ∙ map-append bits_of (lines front) (t.line ∷ [])
+    ∙ ap (λ (rs : List (List Bool)). rs ++ bits_of t.line ∷ []) cut
+    ∙ append_assoc gone rows (bits_of t.line ∷ [])
+    ∙ ap (λ (rs : List (List Bool)). gone ++ rs) (sym t.packed)
+
+-- the tile isn't full
+pub running-more : (runner : Runner) (bytes left rest : List ℕ) (before taken : Option (List ℕ)) (l new : LinesView) (rows packed : List (List Bool)) → (h : IsRunning runner bytes left before taken l rows) → TakesUp runner.width bytes rest h.front rows new packed → IsRunning runner bytes rest before taken new packed
+running-more runner bytes left rest before taken l new rows packed h t = record {
+  front = t.further;
+  walk = t.walk;
+  gone = h.gone;
+  cut = rows-more runner.width bytes rest h.front h.gone rows new packed h.cut t;
+  tiles = h.tiles;
+  full = h.full;
+  took = h.took;
+}
+
+-- the tile is full and was written
+pub running-full : (runner : Runner) (bytes left rest : List ℕ) (before taken now : Option (List ℕ)) (l new : LinesView) (rows packed none : List (List Bool)) → (h : IsRunning runner bytes left before taken l rows) → TakesUp runner.width bytes rest h.front rows new packed → length packed ≡ runner.tile → none ≡ [] → TookAll taken now (results runner packed) → IsRunning runner bytes rest before now new none
+running-full runner bytes left rest before taken now l new rows packed none h t full empty wrote =
+    let one : (h.tiles + 1) * runner.tile ≡ h.tiles * runner.tile + runner.tile = one-more h.tiles runner.tile in
     record {
-      gone = h.gone;
-      walk = walk-more bytes left rest old new h.gone h.walk t;
-      tiles = h.tiles;
-      full = h.full ∙ ap (λ (q : ProgramView). h.tiles * tile_rows q) (sym p);
-      room = room;
-      took =
-          h.took
-          ∙ ap (λ (q : ProgramView). before ++ table q old.batch.fill h.gone) (sym p)
-          ∙ ap (λ (g : Fill). before ++ table new.batch.program g h.gone) (sym f);
-    }
-
-pub step-more : (a b k : Option (List ℕ)) (old new : WalkView) → Told a b (λ left rest. TakesUp old left rest new) → length new.batch.vectors < tile_rows new.batch.program →
-    Told a b (λ left rest. Told k k (λ taken now. (bytes before : List ℕ) → IsRunning bytes left before taken old → IsRunning bytes rest before now new))
-step-more a b k old new told room =
-    told-map a b (λ left rest. TakesUp old left rest new) (λ left rest. Told k k (λ taken now. (bytes before : List ℕ) → IsRunning bytes left before taken old → IsRunning bytes rest before now new))
-    (λ left rest t. same-told k (λ taken now. (bytes before : List ℕ) → IsRunning bytes left before taken old → IsRunning bytes rest before now new)
-    (λ taken bytes before h. running-more bytes left rest before taken old new t room h))
-    told
-
--- ---- a vector more, and the tile is full and was written
-running-full : (bytes left rest before taken now : List ℕ) (old mid new : WalkView) → TakesUp old left rest mid → length mid.batch.vectors ≡ tile_rows mid.batch.program → new ≡ record mid { batch = record mid.batch { vectors = [] } } → now ≡ taken ++ table mid.batch.program mid.batch.fill mid.batch.vectors → IsRunning bytes left before taken old → IsRunning bytes rest before now new
-running-full bytes left rest before taken now old mid new t full same wrote h =
-    let p = packed-program old mid left rest t in
-    let f : mid.batch.fill ≡ old.batch.fill = ap (λ (b : BatchView). b.fill) t.packed in
-    let vs = mid.batch.vectors in
-    let tiles : length h.gone ≡ h.tiles * tile_rows mid.batch.program = h.full ∙ ap (λ (q : ProgramView). h.tiles * tile_rows q) (sym p) in
-    let sum : (h.tiles + 1) * tile_rows mid.batch.program ≡ h.tiles * tile_rows mid.batch.program + tile_rows mid.batch.program = one-more h.tiles (tile_rows mid.batch.program) in
-    subst (λ (w : WalkView). IsRunning bytes rest before now w) (sym same) (record {
-      gone = h.gone ++ vs;
-      walk = walk-flushed bytes rest mid (record mid { batch = record mid.batch { vectors = [] } }) h.gone (walk-more bytes left rest old mid h.gone h.walk t) refl;
+      front = t.further;
+      walk = t.walk;
+      gone = h.gone ++ packed;
+      cut = rows-more runner.width bytes rest h.front h.gone rows new packed h.cut t ∙ sym (append-nil (h.gone ++ packed)) ∙ ap (λ (rs : List (List Bool)). (h.gone ++ packed) ++ rs) (sym empty);
       tiles = h.tiles + 1;
-      full = omega (arith, length-append h.gone vs, tiles, full, sum);
-      room = tile-some mid.batch.program;
-      took =
-          wrote
-          ∙ ap (λ (x : List ℕ). x ++ table mid.batch.program mid.batch.fill vs)
-          (h.took
-          ∙ ap (λ (q : ProgramView). before ++ table q old.batch.fill h.gone) (sym p)
-          ∙ ap (λ (g : Fill). before ++ table mid.batch.program g h.gone) (sym f))
-          ∙ append_assoc before (table mid.batch.program mid.batch.fill h.gone) (table mid.batch.program mid.batch.fill vs)
-          ∙ ap (λ (x : List ℕ). before ++ x) (sym (table-append mid.batch.program mid.batch.fill h.gone vs));
-    })
+      full = omega (arith, length-append h.gone packed, h.full, full, one);
+      took = subst (λ (t : List ℕ). TookAll before now t) (sym (results-append runner h.gone packed)) (took-both before taken now (results runner h.gone) (results runner packed) h.took wrote);
+    }
   where
     one-more : (n t : ℕ) → (n + 1) * t ≡ n * t + t
     one-more n t = omega arith
 
-pub step-full : (a b k l : Option (List ℕ)) (old mid new : WalkView) → Told a b (λ left rest. TakesUp old left rest mid) → length mid.batch.vectors ≡ tile_rows mid.batch.program → new ≡ record mid { batch = record mid.batch { vectors = [] } } →
-    TookAll k l (table mid.batch.program mid.batch.fill mid.batch.vectors) →
-    Told a b (λ left rest. Told k l (λ taken now. (bytes before : List ℕ) → IsRunning bytes left before taken old → IsRunning bytes rest before now new))
-step-full a b k l old mid new told full same took =
-    told-map a b (λ left rest. TakesUp old left rest mid) (λ left rest. Told k l (λ taken now. (bytes before : List ℕ) → IsRunning bytes left before taken old → IsRunning bytes rest before now new))
-    (λ left rest t. took-told k l (table mid.batch.program mid.batch.fill mid.batch.vectors) (λ taken now. (bytes before : List ℕ) → IsRunning bytes left before taken old → IsRunning bytes rest before now new) took
-    (λ taken now wrote bytes before h. running-full bytes left rest before taken now old mid new t full same wrote h))
-    told
-
--- ---- the end, where the rest was written
-ran-whole : (bytes left rest before taken now : List ℕ) (old mid : WalkView) → Ends old left rest mid → now ≡ taken ++ table mid.batch.program mid.batch.fill mid.batch.vectors → IsRunning bytes left before taken old → RanWhole old.batch.program old.batch.fill bytes rest before now
-ran-whole bytes left rest before taken now old mid e wrote h =
-    let vs = old.batch.vectors in
-    let none : vectors_of (old.lines.held ++ left) ≡ [] = ap vectors_of e.none in
-    let cut : vectors_of bytes ≡ h.gone ++ vs =
-    h.walk.cut ∙ ap (λ (r : List (List Bool)). h.gone ++ (vs ++ r)) none ∙ ap (λ (r : List (List Bool)). h.gone ++ r) (append-nil vs) in
-    let count : old.lines.given ≡ length (lines bytes) = omega (arith, ap length cut, length-map (lines bytes) bits_of, length-append h.gone vs, h.walk.given) in
-    let wrote' : now ≡ taken ++ table old.batch.program old.batch.fill vs =
-    wrote ∙ ap (λ (b : BatchView). taken ++ table b.program b.fill b.vectors) e.same in
+-- the output failed in writing it
+in-part : (runner : Runner) (bytes rest front : List ℕ) (before taken now : Option (List ℕ)) (l : LinesView) (gone rows : List (List Bool)) → IsWalk runner.width bytes rest l front → rows_of (lines front) ≡ gone ++ rows → TookAll before taken (results runner gone) → TookFirst taken now (results runner rows) → RanInPart runner bytes before now
+in-part runner bytes rest front before taken now l gone rows walk cut took first =
+    let f = fits-front runner.width bytes rest front l walk in
+    let all : TookFirst before now (results runner gone ++ results runner rows) = then-first before taken now (results runner gone) (results runner rows) took first in
+    let same : take (length (lines front)) (fitting_lines runner.width bytes) ≡ lines front =
+    ap (take (length (lines front))) f.1 ∙ take-front (lines front) f.0 (length (lines front)) refl in
     record {
-      all = rest-nil mid.lines.held rest e.spent;
-      vectors = subst (AreVectors (width old) bytes) count h.walk.vectors;
-      none = ap (verdict (width old) bytes) (sym count) ∙ said-here bytes left old h.gone h.walk ∙ e.said;
-      took =
-          wrote' ∙ ap (λ (x : List ℕ). x ++ table old.batch.program old.batch.fill vs) h.took
-          ∙ append_assoc before (table old.batch.program old.batch.fill h.gone) (table old.batch.program old.batch.fill vs)
-          ∙ ap (λ (x : List ℕ). before ++ x) (sym (table-append old.batch.program old.batch.fill h.gone vs))
-          ∙ ap (λ (v : List (List Bool)). before ++ table old.batch.program old.batch.fill v) (sym cut);
+      count = length (lines front);
+      there = omega (arith, ap length f.1, length-append (lines front) f.0);
+      took = subst (λ (t : List ℕ). TookFirst before now t) (sym (results-append runner gone rows) ∙ ap (results runner) (sym cut) ∙ ap (λ (ls : List (List ℕ)). results runner (rows_of ls)) (sym same)) all;
     }
-  where
-    rest-nil : (held rest : List ℕ) → held ++ rest ≡ [] → rest ≡ []
-    rest-nil [] rest e = e
-    rest-nil (b ∷ held) rest e = cc
 
-pub step-end : (a b k l : Option (List ℕ)) (old mid new : WalkView) → Told a b (λ left rest. Ends old left rest mid) → new ≡ record mid { batch = record mid.batch { vectors = [] } } → mid.batch.program ≡ old.batch.program → mid.batch.fill ≡ old.batch.fill →
-    TookAll k l (table mid.batch.program mid.batch.fill mid.batch.vectors) →
-    Told a b (λ left rest. Told k l (λ taken now. (bytes before : List ℕ) → IsRunning bytes left before taken old → RanWhole new.batch.program new.batch.fill bytes rest before now))
-step-end a b k l old mid new told same p f took =
-    told-map a b (λ left rest. Ends old left rest mid) (λ left rest. Told k l (λ taken now. (bytes before : List ℕ) → IsRunning bytes left before taken old → RanWhole new.batch.program new.batch.fill bytes rest before now))
-    (λ left rest e. took-told k l (table mid.batch.program mid.batch.fill mid.batch.vectors) (λ taken now. (bytes before : List ℕ) → IsRunning bytes left before taken old → RanWhole new.batch.program new.batch.fill bytes rest before now) took
-    (λ taken now wrote bytes before h.
-    let q : old.batch.program ≡ new.batch.program = sym p ∙ sym (ap (λ (w : WalkView). w.batch.program) same) in
-    let g : old.batch.fill ≡ new.batch.fill = sym f ∙ sym (ap (λ (w : WalkView). w.batch.fill) same) in
-    subst (λ (x : Fill). RanWhole new.batch.program x bytes rest before now) g
-    (subst (λ (x : ProgramView). RanWhole x old.batch.fill bytes rest before now) q (ran-whole bytes left rest before taken now old mid e wrote h))))
-    told
+pub part-more : (runner : Runner) (bytes left rest : List ℕ) (before taken now : Option (List ℕ)) (l new : LinesView) (rows packed : List (List Bool)) → (h : IsRunning runner bytes left before taken l rows) → TakesUp runner.width bytes rest h.front rows new packed → TookFirst taken now (results runner packed) → RanInPart runner bytes before now
+part-more runner bytes left rest before taken now l new rows packed h t first =
+    in-part runner bytes rest t.further before taken now new h.gone packed t.walk (rows-more runner.width bytes rest h.front h.gone rows new packed h.cut t) h.took first
 
--- ---- a refusal before anything was written
-refuses-here : (bytes left rest before taken : List ℕ) (old new : WalkView) (r : Refusal) → r ≢ refusal.WriteFault → Stops old left rest new r → IsRunning bytes left before taken old → VectorsRefuse old.batch.program old.batch.fill bytes rest before taken r
-refuses-here bytes left rest before taken old new refusal.Usage other s h = refused-here bytes left before taken old refusal.Usage h s
-refuses-here bytes left rest before taken old new (refusal.ReadFault origin.Program) other s h = absurd s
-refuses-here bytes left rest before taken old new (refusal.ReadFault origin.Input) other s h = record {
-  count = old.lines.given;
-  tiles = tiles-ran bytes left before taken old h;
-  held = new.lines.held;
-  taken = h.walk.behind ∙ sym s.kept;
-  waits = s.waits.none;
-  short = omega (arith, s.waits.short, s.longest, h.walk.longest);
-  within = omega (arith, s.waits.within, s.place, h.walk.place, length-append new.lines.held rest);
+-- ---- the end
+pub ran-whole : (runner : Runner) (bytes left rest : List ℕ) (before taken now : Option (List ℕ)) (l : LinesView) (rows same : List (List Bool)) → (h : IsRunning runner bytes left before taken l rows) → IsEnd runner.width bytes rest h.front → same ≡ rows → TookAll taken now (results runner same) → RanWhole runner bytes rest before now
+ran-whole runner bytes left rest before taken now l rows same h e kept wrote = record {
+  all = e.all;
+  fine = e.fine;
+  took = subst (λ (t : List ℕ). TookAll before now t)
+      (sym (results-append runner h.gone same) ∙ ap (λ (rs : List (List Bool)). results runner (h.gone ++ rs)) kept ∙ ap (results runner) (sym h.cut) ∙ ap (λ (ls : List (List ℕ)). results runner (rows_of ls)) (sym e.fits))
+      (took-both before taken now (results runner h.gone) (results runner same) h.took wrote);
 }
-refuses-here bytes left rest before taken old new refusal.WriteFault other s h = absurd (other refl)
-refuses-here bytes left rest before taken old new refusal.NoMemory other s h = refused-here bytes left before taken old refusal.NoMemory h s
-refuses-here bytes left rest before taken old new (refusal.TooFewCells n) other s h = refused-here bytes left before taken old (refusal.TooFewCells n) h s
-refuses-here bytes left rest before taken old new (refusal.TooLarge l) other s h = refused-here bytes left before taken old (refusal.TooLarge l) h s
-refuses-here bytes left rest before taken old new (refusal.Netlist f) other s h = refused-here bytes left before taken old (refusal.Netlist f) h s
-refuses-here bytes left rest before taken old new (refusal.File f) other s h = refused-here bytes left before taken old (refusal.File f) h s
-refuses-here bytes left rest before taken old new (refusal.Vector n) other s h = refused-here bytes left before taken old (refusal.Vector n) h s
 
-pub step-refused : (a b k : Option (List ℕ)) (old new : WalkView) (r : Refusal) → r ≢ refusal.WriteFault → Told a b (λ left rest. Stops old left rest new r) →
-    Told a b (λ left rest. Told k k (λ taken now. (bytes before : List ℕ) → IsRunning bytes left before taken old → VectorsRefuse old.batch.program old.batch.fill bytes rest before now r))
-step-refused a b k old new r other told =
-    told-map a b (λ left rest. Stops old left rest new r) (λ left rest. Told k k (λ taken now. (bytes before : List ℕ) → IsRunning bytes left before taken old → VectorsRefuse old.batch.program old.batch.fill bytes rest before now r))
-    (λ left rest s. same-told k (λ taken now. (bytes before : List ℕ) → IsRunning bytes left before taken old → VectorsRefuse old.batch.program old.batch.fill bytes rest before now r)
-    (λ taken bytes before h. refuses-here bytes left rest before taken old new r other s h))
-    told
+pub part-end : (runner : Runner) (bytes left : List ℕ) (before taken now : Option (List ℕ)) (l : LinesView) (rows same : List (List Bool)) → (h : IsRunning runner bytes left before taken l rows) → same ≡ rows → TookFirst taken now (results runner same) → RanInPart runner bytes before now
+part-end runner bytes left before taken now l rows same h kept first =
+    in-part runner bytes left h.front before taken now l h.gone same h.walk (h.cut ∙ ap (λ (rs : List (List Bool)). h.gone ++ rs) (sym kept)) h.took first
 
--- ---- a write that failed
-in-part : (bytes rest before taken now : List ℕ) (w : WalkView) (gone : List (List Bool)) → IsWalk bytes rest w gone → taken ≡ before ++ table w.batch.program w.batch.fill gone → TookFirst (Some taken) (Some now) (table w.batch.program w.batch.fill w.batch.vectors) → RanInPart w.batch.program w.batch.fill bytes before now
-in-part bytes rest before taken now w gone h took first =
-    let vs = w.batch.vectors in
-    let p = w.batch.program in
-    let f = w.batch.fill in
-    let front : take w.lines.given (vectors_of bytes) ≡ gone ++ vs =
-    ap (take w.lines.given) (h.cut ∙ sym (append_assoc gone vs (vectors_of (w.lines.held ++ rest))))
-    ∙ take-front (gone ++ vs) (vectors_of (w.lines.held ++ rest)) w.lines.given (omega (arith, h.given, length-append gone vs)) in
-    let all : TookFirst (Some before) (Some now) (table p f gone ++ table p f vs) = then_first (Some before) (Some taken) (Some now) (table p f gone) (table p f vs) took first in
-    let same : table p f gone ++ table p f vs ≡ table p f (take w.lines.given (vectors_of bytes)) = sym (table-append p f gone vs) ∙ ap (table p f) (sym front) in
-    record {
-      count = w.lines.given;
-      there = there bytes rest w gone h;
-      vectors = h.vectors;
-      took = subst (λ (t : List ℕ). TookFirst (Some before) (Some now) t) same all;
-    }
+-- ---- the start
+took-none : (k : Option (List ℕ)) → TookAll k k []
+took-none None = tt
+took-none (Some x) = sym (append-nil x)
 
-part-more : (bytes left rest before taken now : List ℕ) (old mid : WalkView) → TakesUp old left rest mid → TookFirst (Some taken) (Some now) (table mid.batch.program mid.batch.fill mid.batch.vectors) → IsRunning bytes left before taken old → RanInPart old.batch.program old.batch.fill bytes before now
-part-more bytes left rest before taken now old mid t first h =
-    let p = packed-program old mid left rest t in
-    let f : mid.batch.fill ≡ old.batch.fill = ap (λ (b : BatchView). b.fill) t.packed in
-    let took : taken ≡ before ++ table mid.batch.program mid.batch.fill h.gone =
-    h.took
-    ∙ ap (λ (q : ProgramView). before ++ table q old.batch.fill h.gone) (sym p)
-    ∙ ap (λ (g : Fill). before ++ table mid.batch.program g h.gone) (sym f) in
-    subst (λ (x : Fill). RanInPart old.batch.program x bytes before now) f
-    (subst (λ (x : ProgramView). RanInPart x mid.batch.fill bytes before now) p
-    (in-part bytes rest before taken now mid h.gone (walk-more bytes left rest old mid h.gone h.walk t) took first))
-
-part-end : (bytes left rest before taken now : List ℕ) (old mid : WalkView) → Ends old left rest mid → TookFirst (Some taken) (Some now) (table mid.batch.program mid.batch.fill mid.batch.vectors) → IsRunning bytes left before taken old → RanInPart old.batch.program old.batch.fill bytes before now
-part-end bytes left rest before taken now old mid e first h =
-    in-part bytes left before taken now old h.gone h.walk h.took
-    (subst (λ (b : BatchView). TookFirst (Some taken) (Some now) (table b.program b.fill b.vectors)) e.same first)
-
-pub cut-more : (a b k l : Option (List ℕ)) (old mid : WalkView) → Told a b (λ left rest. TakesUp old left rest mid) → TookFirst k l (table mid.batch.program mid.batch.fill mid.batch.vectors) →
-    Told a b (λ left rest. Told k l (λ taken now. (bytes before : List ℕ) → IsRunning bytes left before taken old → RanInPart old.batch.program old.batch.fill bytes before now))
-cut-more a b k l old mid told took =
-    told-map a b (λ left rest. TakesUp old left rest mid) (λ left rest. Told k l (λ taken now. (bytes before : List ℕ) → IsRunning bytes left before taken old → RanInPart old.batch.program old.batch.fill bytes before now))
-    (λ left rest t. first-told k l (table mid.batch.program mid.batch.fill mid.batch.vectors) (λ taken now. (bytes before : List ℕ) → IsRunning bytes left before taken old → RanInPart old.batch.program old.batch.fill bytes before now) took
-    (λ taken now first bytes before h. part-more bytes left rest before taken now old mid t first h))
-    told
-
-pub cut-end : (a b k l : Option (List ℕ)) (old mid : WalkView) → Told a b (λ left rest. Ends old left rest mid) → TookFirst k l (table mid.batch.program mid.batch.fill mid.batch.vectors) →
-    Told a b (λ left rest. Told k l (λ taken now. (bytes before : List ℕ) → IsRunning bytes left before taken old → RanInPart old.batch.program old.batch.fill bytes before now))
-cut-end a b k l old mid told took =
-    told-map a b (λ left rest. Ends old left rest mid) (λ left rest. Told k l (λ taken now. (bytes before : List ℕ) → IsRunning bytes left before taken old → RanInPart old.batch.program old.batch.fill bytes before now))
-    (λ left rest e. first-told k l (table mid.batch.program mid.batch.fill mid.batch.vectors) (λ taken now. (bytes before : List ℕ) → IsRunning bytes left before taken old → RanInPart old.batch.program old.batch.fill bytes before now) took
-    (λ taken now first bytes before h. part-end bytes left rest before taken now old mid e first h))
-    told
+pub running-start : (runner : Runner) (bytes : List ℕ) (taken : Option (List ℕ)) (l : LinesView) (rows : List (List Bool)) → l ≡ first_line runner.width → rows ≡ [] → IsRunning runner bytes bytes taken taken l rows
+running-start runner bytes taken l rows start empty =
+    subst (λ (x : LinesView). IsRunning runner bytes bytes taken taken x rows) (sym start) (record {
+      front = [];
+      walk = record {
+        longest = refl;
+        cut = refl;
+        place = refl;
+        within = omega arith;
+        whole = inl refl;
+        given = refl;
+        refusals = λ behind more. refl;
+        fits = λ more. refl;
+      };
+      gone = [];
+      cut = sym empty;
+      tiles = 0;
+      full = omega arith;
+      took = took-none taken;
+    })
 
 -- a tile that isn't full has room
 pub room-left : (m t : ℕ) (b : Bool) → (m ≡ t → b ≡ true) → m ≤ t → b ≡ false → m < t
@@ -231,38 +193,53 @@ room-left m t b full within e = elim (cases_lt m t) [
       absurd (let z : ⊥ = cc in z)
 ]
 
--- ---- steps one after another
-pub running-start : (a k : Option (List ℕ)) (p : ProgramView) (fill : Fill) → Told a a (λ bytes rest. Told k k (λ before now. IsRunning bytes rest before now (start p fill)))
-running-start a k p fill =
-    same-told a (λ bytes rest. Told k k (λ before now. IsRunning bytes rest before now (start p fill)))
-    (λ bytes. same-told k (λ before now. IsRunning bytes bytes before now (start p fill)) (λ before. record {
-      gone = [];
-      walk = record {
-        longest = refl;
-        given = refl;
-        behind = refl;
-        place = omega arith;
-        vectors = λ k small. absurd (omega arith);
-        cut = refl;
-      };
-      tiles = 0;
-      full = omega arith;
-      room = tile-some p;
-      took = sym (append-nil before);
-    }))
+-- ---- the same where the source tells its bytes
+-- what taking up a line did
+abbrev pub ToldGoes : Bool → Runner → Option (List ℕ) → Option (List ℕ) → LinesView → LinesView → List (List Bool) → List (List Bool) → Type 0
+ToldGoes more runner a b l new rows packed = Told a b (λ left rest. (bytes front : List ℕ) → IsWalk runner.width bytes left l front → Goes more runner.width bytes rest front rows new packed)
 
-pub walked-on : (a b c k l m : Option (List ℕ)) (w : WalkView) (R : List ℕ → List ℕ → List ℕ → List ℕ → Type 0) →
-    Told a b (λ bytes left. Told k l (λ before taken. IsRunning bytes left before taken w)) →
-    Told b c (λ left rest. Told l m (λ taken now. (bytes before : List ℕ) → IsRunning bytes left before taken w → R bytes rest before now)) →
-    Told a c (λ bytes rest. Told k m (λ before now. R bytes rest before now))
-walked-on None b c k l m w R h s = tt
-walked-on (Some x) None c k l m w R h s = absurd h
-walked-on (Some x) (Some y) None k l m w R h s = absurd s
-walked-on (Some x) (Some y) (Some z) None l m w R h s = tt
-walked-on (Some x) (Some y) (Some z) (Some u) None m w R h s = absurd h
-walked-on (Some x) (Some y) (Some z) (Some u) (Some v) None w R h s = absurd s
-walked-on (Some x) (Some y) (Some z) (Some u) (Some v) (Some t) w R h s = s x u h
+pub step-refused : (a b taken : Option (List ℕ)) (runner : Runner) (l : LinesView) (rows : List (List Bool)) (m n : ℕ) (r : Refusal) → IsOfLines m n r → length rows < runner.tile → Told a b (λ left rest. (bytes front : List ℕ) → IsWalk runner.width bytes left l front → Stops runner.width bytes rest front r) →
+    Told a b (λ left rest. (bytes : List ℕ) (before : Option (List ℕ)) → IsRunning runner bytes left before taken l rows → Refuses runner bytes rest before taken r)
+step-refused a b taken runner l rows m n r kind room told =
+    told-map a b (λ left rest. (bytes front : List ℕ) → IsWalk runner.width bytes left l front → Stops runner.width bytes rest front r) _
+    (λ left rest s. λ bytes before h. refused-here runner bytes left rest before taken l rows r (λ e. subst (IsOfLines m n) e kind) room h (s bytes h.front h.walk))
+    told
 
--- a count that rose after it didn't fall
-pub rose-since : (first before now : ℕ) → first ≤ before → Rose before now → Rose first now
-rose-since first before now le h = grind (arith, nat_tests)
+pub step-more : (a b taken : Option (List ℕ)) (runner : Runner) (l new : LinesView) (rows packed : List (List Bool)) → ToldGoes true runner a b l new rows packed →
+    Told a b (λ left rest. (bytes : List ℕ) (before : Option (List ℕ)) → IsRunning runner bytes left before taken l rows → IsRunning runner bytes rest before taken new packed)
+step-more a b taken runner l new rows packed told =
+    told-map a b (λ left rest. (bytes front : List ℕ) → IsWalk runner.width bytes left l front → TakesUp runner.width bytes rest front rows new packed) _
+    (λ left rest s. λ bytes before h. running-more runner bytes left rest before taken l new rows packed h (s bytes h.front h.walk))
+    told
+
+pub step-full : (a b taken now : Option (List ℕ)) (runner : Runner) (l new : LinesView) (rows packed none : List (List Bool)) → ToldGoes true runner a b l new rows packed → length packed ≡ runner.tile → none ≡ [] → TookAll taken now (results runner packed) →
+    Told a b (λ left rest. (bytes : List ℕ) (before : Option (List ℕ)) → IsRunning runner bytes left before taken l rows → IsRunning runner bytes rest before now new none)
+step-full a b taken now runner l new rows packed none told full empty wrote =
+    told-map a b (λ left rest. (bytes front : List ℕ) → IsWalk runner.width bytes left l front → TakesUp runner.width bytes rest front rows new packed) _
+    (λ left rest s. λ bytes before h. running-full runner bytes left rest before taken now l new rows packed none h (s bytes h.front h.walk) full empty wrote)
+    told
+
+pub cut-full : (a b taken now : Option (List ℕ)) (runner : Runner) (l new : LinesView) (rows packed : List (List Bool)) → ToldGoes true runner a b l new rows packed → TookFirst taken now (results runner packed) →
+    Told a b (λ left rest. (bytes : List ℕ) (before : Option (List ℕ)) → IsRunning runner bytes left before taken l rows → RanInPart runner bytes before now)
+cut-full a b taken now runner l new rows packed told first =
+    told-map a b (λ left rest. (bytes front : List ℕ) → IsWalk runner.width bytes left l front → TakesUp runner.width bytes rest front rows new packed) _
+    (λ left rest s. λ bytes before h. part-more runner bytes left rest before taken now l new rows packed h (s bytes h.front h.walk) first)
+    told
+
+pub step-end : (a b taken now : Option (List ℕ)) (runner : Runner) (l new : LinesView) (rows packed : List (List Bool)) → ToldGoes false runner a b l new rows packed → TookAll taken now (results runner packed) →
+    Told a b (λ left rest. (bytes : List ℕ) (before : Option (List ℕ)) → IsRunning runner bytes left before taken l rows → RanWhole runner bytes rest before now)
+step-end a b taken now runner l new rows packed told wrote =
+    told-map a b (λ left rest. (bytes front : List ℕ) → IsWalk runner.width bytes left l front → IsEnd runner.width bytes rest front × (packed ≡ rows)) _
+    (λ left rest s. λ bytes before h. let e = s bytes h.front h.walk in ran-whole runner bytes left rest before taken now l rows packed h e.0 e.1 wrote)
+    told
+
+pub cut-end : (a b taken now : Option (List ℕ)) (runner : Runner) (l new : LinesView) (rows packed : List (List Bool)) → ToldGoes false runner a b l new rows packed → TookFirst taken now (results runner packed) →
+    Told a b (λ left rest. (bytes : List ℕ) (before : Option (List ℕ)) → IsRunning runner bytes left before taken l rows → RanInPart runner bytes before now)
+cut-end a b taken now runner l new rows packed told first =
+    told-map a b (λ left rest. (bytes front : List ℕ) → IsWalk runner.width bytes left l front → IsEnd runner.width bytes rest front × (packed ≡ rows)) _
+    (λ left rest s. λ bytes before h. let e = s bytes h.front h.walk in part-end runner bytes left before taken now l rows packed h e.1 first)
+    told
+
+pub told-start : (runner : Runner) (left taken : Option (List ℕ)) (l : LinesView) (rows : List (List Bool)) → l ≡ first_line runner.width → rows ≡ [] → Told left left (λ bytes rest. IsRunning runner bytes rest taken taken l rows)
+told-start runner None taken l rows start empty = tt
+told-start runner (Some bytes) taken l rows start empty = running-start runner bytes taken l rows start empty

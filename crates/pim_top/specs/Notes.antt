@@ -1,24 +1,39 @@
--- The line that each refusal writes to the notes.
-use Rattle.std.specs.Prelude.{ℕ, List, [], ◌∷◌, ◌++◌, Option, ◌⊎◌, codes, decimal, slice_get, unwrap_or}
-use Rattle.pim_io.specs.Outside.{Rose, TookAll, TookFirst}
-use Rattle.pim_net.specs.declared.fault.NetFault.{NetFault}
-use Rattle.pim_net.specs.declared.fault.NetFault.TheVariants as net
-use Rattle.pim_net.specs.declared.kind.Kind.TheVariants as kind
+-- The line that each answer writes to the notes.
+use Rattle.std.specs.Prelude.{ℕ, List, [], ◌∷◌, ◌++◌, Result, Ok, Err, codes, decimal, slice_get, unwrap_or}
 use Rattle.pim_aiger.specs.declared.fault.AigerFault.{AigerFault}
 use Rattle.pim_aiger.specs.declared.fault.AigerFault.TheVariants as aiger
 use Rattle.pim_blif.specs.declared.fault.BlifFault.{BlifFault}
 use Rattle.pim_blif.specs.declared.fault.BlifFault.TheVariants as blif
+use Rattle.pim_compile.specs.declared.refusal.Refusal.{Refusal as Compiler}
+use Rattle.pim_compile.specs.declared.refusal.Refusal.TheVariants as compiler
 use Rattle.pim_file.specs.declared.fault.FileFault.{FileFault}
 use Rattle.pim_file.specs.declared.fault.FileFault.TheVariants as file
 use Rattle.pim_isa.specs.declared.invalid.Invalid.{Invalid}
 use Rattle.pim_isa.specs.declared.invalid.Invalid.TheVariants as invalid
+use Rattle.pim_net.specs.declared.fault.NetFault.{NetFault}
+use Rattle.pim_net.specs.declared.fault.NetFault.TheVariants as net
+use Rattle.pim_net.specs.declared.kind.Kind.{Kind}
+use Rattle.pim_net.specs.declared.kind.Kind.TheVariants as kind
+use Rattle.pim_top.specs.declared.judgement.Judgement.{Judgement}
+use Rattle.pim_top.specs.declared.judgement.Judgement.TheVariants as judgement
 use Rattle.pim_top.specs.declared.netlist.NetlistFault.{NetlistFault}
 use Rattle.pim_top.specs.declared.netlist.NetlistFault.TheVariants.{Aiger, Blif}
-use Rattle.pim_top.specs.declared.refusal.Limit.{Limit}
+use Rattle.pim_top.specs.declared.refusal.Origin.{Origin}
 use Rattle.pim_top.specs.declared.refusal.Origin.TheVariants as origin
-use Rattle.pim_top.specs.declared.refusal.Limit.TheVariants as limit
 use Rattle.pim_top.specs.declared.refusal.Refusal.{Refusal}
 use Rattle.pim_top.specs.declared.refusal.Refusal.TheVariants as refusal
+
+-- that an input is bad, and what is wrong with it
+abbrev pub bad : List ℕ → List ℕ
+bad detail = codes "bad input: " ++ detail
+
+-- that a limit is passed, and the word for it
+abbrev pub large : List ℕ → List ℕ
+large word = codes "too large: " ++ word
+
+-- that memory ran out
+abbrev pub wanting : List ℕ
+wanting = codes "no memory"
 
 -- the label of a signal
 abbrev pub label_of : List (List ℕ) → ℕ → List ℕ
@@ -29,86 +44,110 @@ abbrev pub cycle_labels : List (List ℕ) → List ℕ → List ℕ
 cycle_labels names [] = []
 cycle_labels names (s ∷ ss) = (codes " " ++ label_of names s) ++ cycle_labels names ss
 
--- the limit that is passed
-abbrev pub limit_word : Limit → List ℕ
-limit_word (limit.Bytes source) = codes "bytes"
-limit_word limit.Nodes = codes "nodes"
-limit_word limit.Rows = codes "rows"
-limit_word limit.Cells = codes "cells"
-limit_word (limit.Netlist kind.Signals) = codes "signals"
-limit_word (limit.Netlist kind.Outputs) = codes "outputs"
-limit_word (limit.Netlist kind.Name) = codes "name"
+-- the limit of a netlist that is passed
+abbrev pub kind_word : Kind → List ℕ
+kind_word kind.Signals = codes "signals"
+kind_word kind.Outputs = codes "outputs"
+kind_word kind.Name = codes "name"
 
--- what is wrong with a netlist
-abbrev pub net_detail : NetFault → List (List ℕ) → List ℕ
-net_detail (net.Twice s) names = codes "driven twice " ++ label_of names s
-net_detail (net.Undriven s) names = codes "undriven " ++ label_of names s
-net_detail (net.Cycle signals) names = codes "cycle" ++ cycle_labels names signals
-net_detail net.NoMemory names = []
+-- why a netlist is not well-formed
+abbrev pub net_text : NetFault → List (List ℕ) → List ℕ
+net_text (net.Twice s) names = bad (codes "driven twice " ++ label_of names s)
+net_text (net.Undriven s) names = bad (codes "undriven " ++ label_of names s)
+net_text (net.Cycle signals) names = bad (codes "cycle" ++ cycle_labels names signals)
+net_text net.NoMemory names = wanting
 
--- what is wrong with an AIGER file
-abbrev pub aiger_detail : AigerFault → List ℕ
-aiger_detail aiger.Header = codes "aiger header"
-aiger_detail aiger.Latches = codes "aiger latches"
-aiger_detail (aiger.Number place) = codes "aiger number at byte " ++ decimal place
-aiger_detail (aiger.Literal place) = codes "aiger literal at byte " ++ decimal place
-aiger_detail (aiger.Truncated place) = codes "aiger truncated at byte " ++ decimal place
-aiger_detail (aiger.Delta place) = codes "aiger delta at byte " ++ decimal place
-aiger_detail (aiger.Symbol place) = codes "aiger symbol at byte " ++ decimal place
-aiger_detail (aiger.Net fault names) = net_detail fault names
-aiger_detail (aiger.TooLarge kind) = []
-aiger_detail aiger.NoMemory = []
+-- why bytes are no AIGER file
+abbrev pub aiger_text : AigerFault → List ℕ
+aiger_text aiger.Header = bad (codes "aiger header")
+aiger_text aiger.Latches = bad (codes "aiger latches")
+aiger_text (aiger.Number place) = bad (codes "aiger number at byte " ++ decimal place)
+aiger_text (aiger.Literal place) = bad (codes "aiger literal at byte " ++ decimal place)
+aiger_text (aiger.Truncated place) = bad (codes "aiger truncated at byte " ++ decimal place)
+aiger_text (aiger.Delta place) = bad (codes "aiger delta at byte " ++ decimal place)
+aiger_text (aiger.Symbol place) = bad (codes "aiger symbol at byte " ++ decimal place)
+aiger_text (aiger.Net fault names) = net_text fault names
+aiger_text (aiger.TooLarge kind) = large (kind_word kind)
+aiger_text aiger.NoMemory = wanting
 
--- what is wrong with a BLIF file
-abbrev pub blif_detail : BlifFault → List ℕ
-blif_detail (blif.Syntax line) = codes "blif line " ++ (decimal line ++ codes ": syntax")
-blif_detail (blif.Unsupported line name) = codes "blif line " ++ (decimal line ++ (codes ": unsupported " ++ name))
-blif_detail (blif.RowWidth line) = codes "blif line " ++ (decimal line ++ codes ": row width")
-blif_detail (blif.MixedPhase line) = codes "blif line " ++ (decimal line ++ codes ": mixed phase")
-blif_detail (blif.TwiceInput line) = codes "blif line " ++ (decimal line ++ codes ": input twice")
-blif_detail (blif.Net fault names) = net_detail fault names
-blif_detail (blif.TooLarge kind) = []
-blif_detail blif.NoMemory = []
+-- what is wrong in a line of a BLIF file, and the name that it has to do with
+abbrev pub blif_line : ℕ → List ℕ → List ℕ → List ℕ
+blif_line line text name = bad (codes "blif line " ++ (decimal line ++ (text ++ name)))
 
--- what is wrong with a netlist's file
-abbrev pub netlist_detail : NetlistFault → List ℕ
-netlist_detail (Aiger fault) = aiger_detail fault
-netlist_detail (Blif fault) = blif_detail fault
+-- why bytes are no BLIF file
+abbrev pub blif_text : BlifFault → List ℕ
+blif_text (blif.Syntax line) = blif_line line (codes ": syntax") []
+blif_text (blif.Unsupported line name) = blif_line line (codes ": unsupported ") name
+blif_text (blif.RowWidth line) = blif_line line (codes ": row width") []
+blif_text (blif.MixedPhase line) = blif_line line (codes ": mixed phase") []
+blif_text (blif.TwiceInput line) = blif_line line (codes ": input twice") []
+blif_text (blif.Net fault names) = net_text fault names
+blif_text (blif.TooLarge kind) = large (kind_word kind)
+blif_text blif.NoMemory = wanting
 
--- what is wrong with a program
-abbrev pub invalid_detail : Invalid → List ℕ
-invalid_detail (invalid.CellRange k) = codes "program instruction " ++ (decimal k ++ codes " cell range")
-invalid_detail (invalid.TargetRead k) = codes "program instruction " ++ (decimal k ++ codes " reads its target")
-invalid_detail (invalid.WrongTarget k) = codes "program instruction " ++ (decimal k ++ codes " wrong target")
-invalid_detail (invalid.InitList k) = codes "program instruction " ++ (decimal k ++ codes " init list")
-invalid_detail (invalid.Port k) = codes "program port " ++ decimal k
+-- why bytes are no netlist
+abbrev pub netlist_text : NetlistFault → List ℕ
+netlist_text (Aiger fault) = aiger_text fault
+netlist_text (Blif fault) = blif_text fault
 
--- what is wrong with a program file
-abbrev pub file_detail : FileFault → List ℕ
-file_detail (file.Line n) = codes "program line " ++ decimal n
-file_detail (file.Invalid fault) = invalid_detail fault
-file_detail file.Truncated = codes "program truncated"
-file_detail file.TooLarge = []
-file_detail file.NoMemory = []
+-- why a netlist is not compiled
+abbrev pub compiler_text : Compiler → List ℕ
+compiler_text (compiler.TooFewCells needed) = codes "too few cells: needed " ++ decimal needed
+compiler_text compiler.TooLarge = large (codes "nodes")
+compiler_text compiler.NoMemory = wanting
 
--- the text of a note
-abbrev pub note_text : Refusal → List ℕ
-note_text refusal.Usage = codes "usage"
-note_text (refusal.ReadFault origin.Program) = codes "read fault: program"
-note_text (refusal.ReadFault origin.Input) = codes "read fault: input"
-note_text refusal.WriteFault = codes "write fault"
-note_text refusal.NoMemory = codes "no memory"
-note_text (refusal.TooFewCells needed) = codes "too few cells: needed " ++ decimal needed
-note_text (refusal.TooLarge limit) = codes "too large: " ++ limit_word limit
-note_text (refusal.Netlist fault) = codes "bad input: " ++ netlist_detail fault
-note_text (refusal.File fault) = codes "bad input: " ++ file_detail fault
-note_text (refusal.Vector n) = codes "bad input: vector line " ++ decimal n
+-- what is wrong with an instruction
+abbrev pub instruction_text : ℕ → List ℕ → List ℕ
+instruction_text k text = bad (codes "program instruction " ++ (decimal k ++ text))
 
--- the line
-abbrev pub note : Refusal → List ℕ
-note r = codes "pim: " ++ note_text r ++ codes "\n"
+-- why a program is not valid
+abbrev pub invalid_text : Invalid → List ℕ
+invalid_text (invalid.CellRange k) = instruction_text k (codes " cell range")
+invalid_text (invalid.TargetRead k) = instruction_text k (codes " reads its target")
+invalid_text (invalid.WrongTarget k) = instruction_text k (codes " wrong target")
+invalid_text (invalid.InitList k) = instruction_text k (codes " init list")
+invalid_text (invalid.Port k) = bad (codes "program port " ++ decimal k)
 
--- the sink took the whole line; or a prefix of it, and its count of faults rose
-abbrev pub IsNoted : Option (List ℕ) → Option (List ℕ) → ℕ → ℕ → List ℕ → Type 0
-IsNoted taken_before taken_now faults_before faults_now line =
-    TookAll taken_before taken_now line ⊎ (TookFirst taken_before taken_now line × Rose faults_before faults_now)
+-- why bytes are no program file
+abbrev pub file_text : FileFault → List ℕ
+file_text (file.Line n) = bad (codes "program line " ++ decimal n)
+file_text (file.Invalid fault) = invalid_text fault
+file_text file.Truncated = bad (codes "program truncated")
+file_text file.TooLarge = large (codes "cells")
+file_text file.NoMemory = wanting
+
+-- why bytes are refused
+abbrev pub judgement_text : Judgement → List ℕ
+judgement_text (judgement.Netlist fault) = netlist_text fault
+judgement_text (judgement.Compile refusal) = compiler_text refusal
+judgement_text (judgement.File fault) = file_text fault
+judgement_text (judgement.Vector n) = bad (codes "vector line " ++ decimal n)
+judgement_text judgement.TooManyLines = large (codes "rows")
+judgement_text judgement.NoMemory = wanting
+
+-- the name of a source
+abbrev pub origin_word : Origin → List ℕ
+origin_word origin.Program = codes "program"
+origin_word origin.Input = codes "input"
+
+-- why a call is refused
+abbrev pub refusal_text : Refusal → List ℕ
+refusal_text refusal.Usage = codes "usage"
+refusal_text refusal.NoMemory = wanting
+refusal_text (refusal.ReadFault origin) = codes "read fault: " ++ origin_word origin
+refusal_text (refusal.TooLong origin) = large (codes "bytes")
+refusal_text refusal.WriteFault = codes "write fault"
+refusal_text (refusal.Judged j) = judgement_text j
+
+-- the line with this text
+abbrev pub note_line : List ℕ → List ℕ
+note_line text = codes "pim: " ++ (text ++ codes "\n")
+
+-- the line of a refusal
+abbrev pub refusal_note : Refusal → List ℕ
+refusal_note r = note_line (refusal_text r)
+
+-- the line of an answer: none where all was done
+abbrev pub note : {Y : Type 0} → Result Y Refusal → List ℕ
+note (Ok y) = []
+note (Err r) = refusal_note r

@@ -1,14 +1,65 @@
--- Why a source was not read whole.
-use Rattle.std.specs.Prelude.{◌≡◌, ◌<◌, ℕ, List, Option, length}
-use Rattle.pim_io.specs.Outside.{Rose, Told}
-use Rattle.pim_top.specs.declared.refusal.Limit.TheVariants as limit
+-- Which sources a command reads, and what kind of command it is.
+use Rattle.std.specs.Prelude.{◌≡◌, ◌≤◌, ◌<◌, ℕ, Bool, true, false, List, [], Option, None, Some, length}
+use Rattle.pim_io.specs.Outside.{Told}
+use Rattle.pim_words.specs.declared.command.Command.{Command}
+use Rattle.pim_words.specs.declared.command.Command.TheVariants.{Compile, Run}
+use Rattle.pim_top.specs.Streams.{IsRead, IsUntouched, Seen, Stream}
+use Rattle.pim_io.specs.declared.limits.TheConstants.{MAX_INPUT, MAX_PROGRAM}
 use Rattle.pim_top.specs.declared.refusal.Origin.{Origin}
-use Rattle.pim_top.specs.declared.refusal.Refusal.{Refusal}
-use Rattle.pim_top.specs.declared.refusal.Refusal.TheVariants as refusal
+use Rattle.pim_top.specs.declared.refusal.Origin.TheVariants.{Input, Program}
 
--- a source of this origin failed and counted it, or has more bytes than the limit allows, or memory was wanting
-abbrev pub IsUnread : Origin → ℕ → Option (List ℕ) → Option (List ℕ) → ℕ → ℕ → Refusal → Type 0
-IsUnread origin most before now faults faults_now (refusal.ReadFault o) = (o ≡ origin) × Rose faults faults_now × Told before now (λ bytes rest. Unit {0})
-IsUnread origin most before now faults faults_now (refusal.TooLarge (limit.Bytes o)) = (o ≡ origin) × Told before now (λ bytes rest. most < length bytes)
-IsUnread origin most before now faults faults_now refusal.NoMemory = Told before now (λ bytes rest. Unit {0})
-IsUnread origin most before now faults faults_now r = ⊥
+-- the most bytes of the source that the command reads, and nothing where it doesn't read it
+abbrev pub reads : Command → Origin → Option ℕ
+reads (Compile target level cells) Program = None
+reads (Compile target level cells) Input = Some MAX_INPUT
+reads (Run fill) Program = Some MAX_PROGRAM
+reads (Run fill) Input = Some MAX_INPUT
+
+-- the command writes to the output while it reads the input
+abbrev pub streams : Command → Bool
+streams (Run fill) = true
+streams command = false
+
+-- the command executes rows, all of whose memory it takes before it reads the first of them
+abbrev pub executes_rows : Command → Bool
+executes_rows (Run fill) = true
+executes_rows command = false
+
+-- the source of this origin
+abbrev pub source : Seen → Origin → Stream
+source seen Program = seen.program
+source seen Input = seen.input
+
+-- a source that the command doesn't read is untouched
+abbrev pub IsApart : Command → Seen → Type 0
+IsApart command seen = (o : Origin) → reads command o ≡ None → IsUntouched (source seen o)
+
+-- a source with this limit was read to its end, and these are its bytes; one without a limit is not read and gives none
+abbrev pub IsReadBy : Option ℕ → Stream → List ℕ → Type 0
+IsReadBy None s bytes = (bytes ≡ []) × IsUntouched s
+IsReadBy (Some limit) s bytes = IsRead s limit bytes
+
+-- this holds of a source that is read, and of its limit
+abbrev pub OfLimit : Option ℕ → (ℕ → Type 0) → Type 0
+OfLimit None P = ⊥
+OfLimit (Some limit) P = P limit
+
+-- the bytes are within the limit, where there is one
+abbrev pub IsWithin : Option ℕ → List ℕ → Type 0
+IsWithin None bytes = Unit {0}
+IsWithin (Some limit) bytes = length bytes ≤ limit
+
+-- the bytes are more than the limit
+abbrev pub IsOver : Option ℕ → List ℕ → Type 0
+IsOver limit bytes = OfLimit limit (λ most. most < length bytes)
+
+-- the bytes are all that a source tells before the call, where it is read; one that is not read counts as empty
+abbrev pub Tells : Option ℕ → Stream → List ℕ → Type 0
+Tells None s bytes = bytes ≡ []
+Tells (Some limit) s bytes = s.before ≡ Some bytes
+
+-- a source that is read to its end has bytes within the limit of which this holds, where it tells them; one that is not read
+-- counts as empty
+abbrev pub OfBytes : Option ℕ → Stream → (List ℕ → Type 0) → Type 0
+OfBytes None s P = P []
+OfBytes (Some limit) s P = Told s.before s.now (λ bytes rest. (rest ≡ []) × (length bytes ≤ limit) × P bytes)

@@ -1,7 +1,19 @@
--- Statuses, and the refusals that end with them.
-use Rattle.std.specs.Prelude.{ℕ}
-use Rattle.pim_words.specs.declared.fault.WordsFault.{WordsFault}
-use Rattle.pim_words.specs.declared.fault.WordsFault.TheVariants as fault
+-- Statuses, and what ends with each of them.
+use Rattle.std.specs.Prelude.{ℕ, Result, Ok, Err}
+use Rattle.pim_aiger.specs.declared.fault.AigerFault.{AigerFault}
+use Rattle.pim_aiger.specs.declared.fault.AigerFault.TheVariants as aiger
+use Rattle.pim_blif.specs.declared.fault.BlifFault.{BlifFault}
+use Rattle.pim_blif.specs.declared.fault.BlifFault.TheVariants as blif
+use Rattle.pim_compile.specs.declared.refusal.Refusal.{Refusal as Compiler}
+use Rattle.pim_compile.specs.declared.refusal.Refusal.TheVariants as compiler
+use Rattle.pim_file.specs.declared.fault.FileFault.{FileFault}
+use Rattle.pim_file.specs.declared.fault.FileFault.TheVariants as file
+use Rattle.pim_net.specs.declared.fault.NetFault.{NetFault}
+use Rattle.pim_net.specs.declared.fault.NetFault.TheVariants as net
+use Rattle.pim_top.specs.declared.judgement.Judgement.{Judgement}
+use Rattle.pim_top.specs.declared.judgement.Judgement.TheVariants as judgement
+use Rattle.pim_top.specs.declared.netlist.NetlistFault.{NetlistFault}
+use Rattle.pim_top.specs.declared.netlist.NetlistFault.TheVariants.{Aiger, Blif}
 use Rattle.pim_top.specs.declared.refusal.Refusal.{Refusal}
 use Rattle.pim_top.specs.declared.refusal.Refusal.TheVariants as refusal
 use Rattle.pim_top.specs.declared.status.Status.{Status}
@@ -18,31 +30,61 @@ code_of status.NoMemory = 5
 code_of status.TooFewCells = 6
 code_of status.TooLarge = 7
 
--- the status that a refusal ends with
-abbrev pub status_of : Refusal → Status
-status_of refusal.Usage = status.Usage
-status_of (refusal.ReadFault origin) = status.ReadFault
-status_of refusal.WriteFault = status.WriteFault
-status_of refusal.NoMemory = status.NoMemory
-status_of (refusal.TooFewCells needed) = status.TooFewCells
-status_of (refusal.TooLarge limit) = status.TooLarge
-status_of (refusal.Netlist fault) = status.BadInput
-status_of (refusal.File fault) = status.BadInput
-status_of (refusal.Vector n) = status.BadInput
+-- a netlist that is not well-formed is a bad input
+abbrev pub net_status : NetFault → Status
+net_status net.NoMemory = status.NoMemory
+net_status fault = status.BadInput
 
--- the refusal of words
-abbrev pub words_refusal : WordsFault → Refusal
-words_refusal fault.Usage = refusal.Usage
-words_refusal fault.NoMemory = refusal.NoMemory
+-- a fault of an AIGER file is a bad input, but a limit is too large
+abbrev pub aiger_status : AigerFault → Status
+aiger_status (aiger.Net fault names) = net_status fault
+aiger_status (aiger.TooLarge kind) = status.TooLarge
+aiger_status aiger.NoMemory = status.NoMemory
+aiger_status fault = status.BadInput
 
--- a refusal that has to do with neither the words nor the outside
-abbrev pub IsInner : Refusal → Type 0
-IsInner refusal.Usage = ⊥
-IsInner (refusal.ReadFault origin) = ⊥
-IsInner refusal.WriteFault = ⊥
-IsInner refusal.NoMemory = Unit {0}
-IsInner (refusal.TooFewCells needed) = Unit {0}
-IsInner (refusal.TooLarge limit) = Unit {0}
-IsInner (refusal.Netlist fault) = Unit {0}
-IsInner (refusal.File fault) = Unit {0}
-IsInner (refusal.Vector n) = Unit {0}
+-- the same of a BLIF file
+abbrev pub blif_status : BlifFault → Status
+blif_status (blif.Net fault names) = net_status fault
+blif_status (blif.TooLarge kind) = status.TooLarge
+blif_status blif.NoMemory = status.NoMemory
+blif_status fault = status.BadInput
+
+-- the same of a netlist in any format
+abbrev pub netlist_status : NetlistFault → Status
+netlist_status (Aiger fault) = aiger_status fault
+netlist_status (Blif fault) = blif_status fault
+
+-- too few cells have a status of their own, too many nodes are too large
+abbrev pub compiler_status : Compiler → Status
+compiler_status (compiler.TooFewCells needed) = status.TooFewCells
+compiler_status compiler.TooLarge = status.TooLarge
+compiler_status compiler.NoMemory = status.NoMemory
+
+-- a fault of a program file is a bad input, but too many cells are too large
+abbrev pub file_status : FileFault → Status
+file_status file.TooLarge = status.TooLarge
+file_status file.NoMemory = status.NoMemory
+file_status fault = status.BadInput
+
+-- the status of a judgement
+abbrev pub judgement_status : Judgement → Status
+judgement_status (judgement.Netlist fault) = netlist_status fault
+judgement_status (judgement.Compile refusal) = compiler_status refusal
+judgement_status (judgement.File fault) = file_status fault
+judgement_status (judgement.Vector n) = status.BadInput
+judgement_status judgement.TooManyLines = status.TooLarge
+judgement_status judgement.NoMemory = status.NoMemory
+
+-- the status of a refusal
+abbrev pub refusal_status : Refusal → Status
+refusal_status refusal.Usage = status.Usage
+refusal_status refusal.NoMemory = status.NoMemory
+refusal_status (refusal.ReadFault origin) = status.ReadFault
+refusal_status (refusal.TooLong origin) = status.TooLarge
+refusal_status refusal.WriteFault = status.WriteFault
+refusal_status (refusal.Judged j) = judgement_status j
+
+-- the status of a call's answer
+abbrev pub answer_status : {Y : Type 0} → Result Y Refusal → Status
+answer_status (Ok y) = status.Done
+answer_status (Err r) = refusal_status r

@@ -1,4 +1,3 @@
-//! The commands. Each reads its sources and writes its output, or gives the refusal that it comes to.
-
+//! The commands, one file each.
 pub mod compile;
 pub mod run;

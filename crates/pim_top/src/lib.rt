@@ -1,16 +1,18 @@
-//! The one public call of the tool, [`pim`]: from words, sources and sinks to a status. Each command reads its sources and
-//! writes its output, and gives a refusal where it can't; what `compile` writes is a function of its bytes and options, and
-//! `run` goes on by one line at a time. The note of a refusal is written once, for all commands.
+//! The one public call of the tool, [`pim`]: from words, sources and sinks to a status. A command that writes its text whole is a
+//! function of its words and of the bytes that it reads ([`WholeText`](whole::WholeText)); one shell reads the bytes and writes the
+//! text, for all of them. `run` goes on by one line at a time. The note of an answer is written once, for all commands.
 #![tactic(auto)]
 
 mod commands;
-mod input;
+mod judgement;
 mod netlist;
 mod note;
+mod reading;
 mod refusal;
 mod status;
 mod top;
 mod walk;
+mod whole;
 
 pub use pim_words::program_word;
 pub use status::Status;

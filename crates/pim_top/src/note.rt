@@ -1,263 +1,263 @@
 //! The one line that a refusal writes to the notes.
-ghost use Rattle.std.specs.Prelude.{◌≡◌, ◌≤◌, ◌++◌, OnErr, OnOk, codes, decimal};
-ghost use Rattle.pim_io.specs.Outside.{Rose, TookAll, TookFirst};
-ghost use Rattle.pim_top.specs.Notes.{aiger_detail, blif_detail, cycle_labels, file_detail, invalid_detail, label_of, limit_word, net_detail, note, IsNoted};
+ghost use Rattle.std.specs.Prelude.{◌≡◌, ◌++◌, OnOk, codes, decimal};
+ghost use Rattle.pim_io.specs.Outside.{Wrote};
+ghost use Rattle.pim_top.specs.Calls.{IsNoted};
+ghost use Rattle.pim_top.specs.Notes.{aiger_text, bad, blif_line, blif_text, compiler_text, cycle_labels, file_text, instruction_text, invalid_text, judgement_text, kind_word, label_of, large, net_text, note, origin_word, refusal_text};
+ghost use Rattle.pim_top.specs.Streams.{stream};
+ghost use Rattle.pim_top.specs.inner.Writing.{WroteLine};
 
+use crate::judgement::Judgement;
 use crate::netlist::NetlistFault;
-use crate::refusal::{Limit, Origin, Refusal};
+use crate::refusal::{Origin, Refusal};
 use itoa::Buffer;
 use pim_aiger::AigerFault;
 use pim_blif::BlifFault;
 use pim_file::FileFault;
-use pim_io::{Sink, SinkFault, write_all};
+use pim_io::{Sink, SinkFault, tell_writes, write_all, write_pieces};
 use pim_isa::Invalid;
 use pim_net::{Kind, Names, NetFault};
 
-/// Writes the note of a refusal, as far as the sink takes it.
-pub fn tell<E: Sink>(refusal: &Refusal, notes: &mut E)
-    ensures { IsNoted (E.taken notes.old) (E.taken notes.new) (E.faults notes.old) (E.faults notes.new) (note refusal.now) }
+/// Writes the note of an answer, as far as the sink takes it: none where all was done.
+pub fn tell<E: Sink>(answer: &Result<(), Refusal>, notes: &mut E)
+    ensures noted { IsNoted (stream E.taken E.faults notes.old notes.new) (note answer.now) }
+    ensures silent { OnOk answer.now (notes.new ≡ notes.old) }
 {
-    let _ = write_note(refusal, notes);
+    if let Err(refusal) = answer {
+        let _ = write_refusal(notes, refusal);
+    }
 }
 
-/// Writes the note of a refusal, piece by piece and without memory: `pim: `, the text and a newline.
-/// It ends at the first piece that the sink refuses.
-fn write_note<E: Sink>(refusal: &Refusal, notes: &mut E) -> Result<(), SinkFault>
-    ensures whole { OnOk result (TookAll (E.taken notes.old) (E.taken notes.new) (note refusal.now)) }
-    ensures prefix { OnErr result (TookFirst (E.taken notes.old) (E.taken notes.new) (note refusal.now)) }
-    ensures counted { OnErr result (Rose (E.faults notes.old) (E.faults notes.new)) }
+/// Writes the note of a refusal, piece by piece and without memory: `pim: `, the text and a newline. It ends at the first piece
+/// that the sink refuses.
+fn write_refusal<E: Sink>(notes: &mut E, refusal: &Refusal) -> Result<(), SinkFault>
+    ensures { WroteLine E.taken E.faults notes.old notes.new (refusal_text refusal.now) result }
 {
     match refusal {
-        Refusal::Usage => write_all(notes, b"pim: usage\n"),
-        Refusal::ReadFault(Origin::Program) => write_all(notes, b"pim: read fault: program\n"),
-        Refusal::ReadFault(Origin::Input) => write_all(notes, b"pim: read fault: input\n"),
-        Refusal::WriteFault => write_all(notes, b"pim: write fault\n"),
-        Refusal::NoMemory => write_all(notes, b"pim: no memory\n"),
-        Refusal::TooFewCells { needed } => {
-            write_counted(notes, b"pim: too few cells: needed ", *needed)
+        Refusal::Usage => write_text(notes, b"usage"),
+        Refusal::NoMemory => write_text(notes, b"no memory"),
+        Refusal::ReadFault(origin) => write_two(notes, b"read fault: ", origin_word(*origin)),
+        Refusal::TooLong(_) => write_large(notes, b"bytes"),
+        Refusal::WriteFault => write_text(notes, b"write fault"),
+        Refusal::Judged(judgement) => write_judgement(notes, judgement),
+    }
+}
+
+/// Writes why bytes are refused.
+fn write_judgement<E: Sink>(notes: &mut E, judgement: &Judgement) -> Result<(), SinkFault>
+    ensures { WroteLine E.taken E.faults notes.old notes.new (judgement_text judgement.now) result }
+{
+    match judgement {
+        Judgement::Netlist(NetlistFault::Aiger(fault)) => write_aiger(notes, fault),
+        Judgement::Netlist(NetlistFault::Blif(fault)) => write_blif(notes, fault),
+        Judgement::Compile(refusal) => write_compiler(notes, *refusal),
+        Judgement::File(fault) => write_file(notes, *fault),
+        Judgement::Vector(line) => write_bad_number(notes, b"vector line ", *line),
+        Judgement::TooManyLines => write_large(notes, b"rows"),
+        Judgement::NoMemory => write_text(notes, b"no memory"),
+    }
+}
+
+/// Writes why a netlist is not compiled.
+fn write_compiler<E: Sink>(notes: &mut E, refusal: pim_compile::Refusal) -> Result<(), SinkFault>
+    ensures { WroteLine E.taken E.faults notes.old notes.new (compiler_text refusal) result }
+{
+    match refusal {
+        pim_compile::Refusal::TooFewCells { needed } => {
+            write_number(notes, b"too few cells: needed ", needed)
         }
-        Refusal::TooLarge(limit) => write_line(notes, b"pim: too large: ", limit_word(*limit)),
-        Refusal::Netlist(NetlistFault::Aiger(fault)) => write_aiger(notes, fault),
-        Refusal::Netlist(NetlistFault::Blif(fault)) => write_blif(notes, fault),
-        Refusal::File(fault) => write_file(notes, *fault),
-        Refusal::Vector(line) => write_counted(notes, b"pim: bad input: vector line ", *line),
+        pim_compile::Refusal::TooLarge => write_large(notes, b"nodes"),
+        pim_compile::Refusal::NoMemory => write_text(notes, b"no memory"),
+    }
+}
+
+/// Writes the fault of an AIGER file with its byte place, or that of its netlist with the signals' labels.
+fn write_aiger<E: Sink>(notes: &mut E, fault: &AigerFault) -> Result<(), SinkFault>
+    ensures { WroteLine E.taken E.faults notes.old notes.new (aiger_text fault.now) result }
+{
+    match fault {
+        AigerFault::Header => write_bad(notes, b"aiger header"),
+        AigerFault::Latches => write_bad(notes, b"aiger latches"),
+        AigerFault::Number(at) => write_bad_number(notes, b"aiger number at byte ", *at),
+        AigerFault::Literal(at) => write_bad_number(notes, b"aiger literal at byte ", *at),
+        AigerFault::Truncated(at) => write_bad_number(notes, b"aiger truncated at byte ", *at),
+        AigerFault::Delta(at) => write_bad_number(notes, b"aiger delta at byte ", *at),
+        AigerFault::Symbol(at) => write_bad_number(notes, b"aiger symbol at byte ", *at),
+        AigerFault::Net(fault, names) => write_net(notes, fault, names),
+        AigerFault::TooLarge(kind) => write_large(notes, kind_word(*kind)),
+        AigerFault::NoMemory => write_text(notes, b"no memory"),
     }
 }
 
 /// Writes the fault of a BLIF file with its line, or that of its netlist with the signals' labels.
 fn write_blif<E: Sink>(notes: &mut E, fault: &BlifFault) -> Result<(), SinkFault>
-    ensures whole { OnOk result (TookAll (E.taken notes.old) (E.taken notes.new)
-        (codes "pim: bad input: " ++ (blif_detail fault.now ++ codes "\n"))) }
-    ensures prefix { OnErr result (TookFirst (E.taken notes.old) (E.taken notes.new)
-        (codes "pim: bad input: " ++ (blif_detail fault.now ++ codes "\n"))) }
-    ensures counted { OnErr result (Rose (E.faults notes.old) (E.faults notes.new)) }
+    ensures { WroteLine E.taken E.faults notes.old notes.new (blif_text fault.now) result }
 {
     match fault {
-        BlifFault::Syntax(line) => write_at_line(notes, *line, b": syntax"),
-        BlifFault::Unsupported(line, name) => write_unsupported(notes, *line, name.bytes()),
-        BlifFault::RowWidth(line) => write_at_line(notes, *line, b": row width"),
-        BlifFault::MixedPhase(line) => write_at_line(notes, *line, b": mixed phase"),
-        BlifFault::TwiceInput(line) => write_at_line(notes, *line, b": input twice"),
+        BlifFault::Syntax(line) => write_blif_line(notes, *line, b": syntax", b""),
+        BlifFault::Unsupported(line, name) => write_blif_line(
+            notes,
+            *line,
+            b": unsupported ",
+            name.bytes(),
+        ),
+        BlifFault::RowWidth(line) => write_blif_line(notes, *line, b": row width", b""),
+        BlifFault::MixedPhase(line) => write_blif_line(notes, *line, b": mixed phase", b""),
+        BlifFault::TwiceInput(line) => write_blif_line(notes, *line, b": input twice", b""),
         BlifFault::Net(fault, names) => write_net(notes, fault, names),
-        BlifFault::TooLarge(_) => write_all(notes, b"pim: bad input: \n"),
-        BlifFault::NoMemory => write_all(notes, b"pim: bad input: \n"),
+        BlifFault::TooLarge(kind) => write_large(notes, kind_word(*kind)),
+        BlifFault::NoMemory => write_text(notes, b"no memory"),
     }
 }
 
 /// Writes what is wrong in a line of a BLIF file.
-fn write_at_line<E: Sink>(notes: &mut E, line: u32, text: &[u8]) -> Result<(), SinkFault>
-    ensures whole { OnOk result (TookAll (E.taken notes.old) (E.taken notes.new)
-        (codes "pim: bad input: " ++ ((codes "blif line " ++ (decimal line ++ text.now)) ++ codes "\n"))) }
-    ensures prefix { OnErr result (TookFirst (E.taken notes.old) (E.taken notes.new)
-        (codes "pim: bad input: " ++ ((codes "blif line " ++ (decimal line ++ text.now)) ++ codes "\n"))) }
-    ensures counted { OnErr result (Rose (E.faults notes.old) (E.faults notes.new)) }
+fn write_blif_line<E: Sink>(
+    notes: &mut E,
+    line: u32,
+    text: &[u8],
+    name: &[u8],
+) -> Result<(), SinkFault>
+    ensures { WroteLine E.taken E.faults notes.old notes.new (blif_line line text.now name.now) result }
 {
     let mut digits = Buffer::new();
-    write_all(notes, b"pim: bad input: blif line ")?;
-    write_line(notes, digits.format(line).as_bytes(), text)?;
-    Ok(())
+    let pieces = [
+        b"pim: ".as_slice(),
+        b"bad input: ",
+        b"blif line ",
+        digits.format(line).as_bytes(),
+        text,
+        name,
+        b"\n",
+    ];
+    write_pieces(notes, &pieces)
 }
 
-/// Writes that a directive in a line of a BLIF file is not supported.
-fn write_unsupported<E: Sink>(notes: &mut E, line: u32, label: &[u8]) -> Result<(), SinkFault>
-    ensures whole { OnOk result (TookAll (E.taken notes.old) (E.taken notes.new)
-        (codes "pim: bad input: " ++ ((codes "blif line " ++ (decimal line ++ (codes ": unsupported " ++ label.now))) ++ codes "\n"))) }
-    ensures prefix { OnErr result (TookFirst (E.taken notes.old) (E.taken notes.new)
-        (codes "pim: bad input: " ++ ((codes "blif line " ++ (decimal line ++ (codes ": unsupported " ++ label.now))) ++ codes "\n"))) }
-    ensures counted { OnErr result (Rose (E.faults notes.old) (E.faults notes.new)) }
+/// Writes the fault of a netlist with the labels of its signals.
+fn write_net<E: Sink>(notes: &mut E, fault: &NetFault, names: &Names) -> Result<(), SinkFault>
+    ensures { WroteLine E.taken E.faults notes.old notes.new (net_text fault.now names.now) result }
 {
-    let mut digits = Buffer::new();
-    write_all(notes, b"pim: bad input: blif line ")?;
-    write_all(notes, digits.format(line).as_bytes())?;
-    write_line(notes, b": unsupported ", label)?;
-    Ok(())
+    match fault {
+        NetFault::Twice(signal) => write_bad_two(notes, b"driven twice ", label_of(names, *signal)),
+        NetFault::Undriven(signal) => write_bad_two(notes, b"undriven ", label_of(names, *signal)),
+        NetFault::Cycle(signals) => write_cycle(notes, signals.list(), names),
+        NetFault::NoMemory => write_text(notes, b"no memory"),
+    }
 }
 
 /// Writes the fault of a program file with its line, or that of its program.
 fn write_file<E: Sink>(notes: &mut E, fault: FileFault) -> Result<(), SinkFault>
-    ensures whole { OnOk result (TookAll (E.taken notes.old) (E.taken notes.new)
-        (codes "pim: bad input: " ++ (file_detail fault ++ codes "\n"))) }
-    ensures prefix { OnErr result (TookFirst (E.taken notes.old) (E.taken notes.new)
-        (codes "pim: bad input: " ++ (file_detail fault ++ codes "\n"))) }
-    ensures counted { OnErr result (Rose (E.faults notes.old) (E.faults notes.new)) }
+    ensures { WroteLine E.taken E.faults notes.old notes.new (file_text fault) result }
 {
     match fault {
-        FileFault::Line(line) => write_counted(notes, b"pim: bad input: program line ", line),
+        FileFault::Line(line) => write_bad_number(notes, b"program line ", line),
         FileFault::Invalid(fault) => write_invalid(notes, fault),
-        FileFault::Truncated => write_all(notes, b"pim: bad input: program truncated\n"),
-        FileFault::TooLarge => write_all(notes, b"pim: bad input: \n"),
-        FileFault::NoMemory => write_all(notes, b"pim: bad input: \n"),
+        FileFault::Truncated => write_bad(notes, b"program truncated"),
+        FileFault::TooLarge => write_large(notes, b"cells"),
+        FileFault::NoMemory => write_text(notes, b"no memory"),
     }
 }
 
 /// Writes why a program is not valid, with the instruction or the port.
 fn write_invalid<E: Sink>(notes: &mut E, fault: Invalid) -> Result<(), SinkFault>
-    ensures whole { OnOk result (TookAll (E.taken notes.old) (E.taken notes.new)
-        (codes "pim: bad input: " ++ (invalid_detail fault ++ codes "\n"))) }
-    ensures prefix { OnErr result (TookFirst (E.taken notes.old) (E.taken notes.new)
-        (codes "pim: bad input: " ++ (invalid_detail fault ++ codes "\n"))) }
-    ensures counted { OnErr result (Rose (E.faults notes.old) (E.faults notes.new)) }
+    ensures { WroteLine E.taken E.faults notes.old notes.new (invalid_text fault) result }
 {
     match fault {
         Invalid::CellRange(k) => write_instruction(notes, k, b" cell range"),
         Invalid::TargetRead(k) => write_instruction(notes, k, b" reads its target"),
         Invalid::WrongTarget(k) => write_instruction(notes, k, b" wrong target"),
         Invalid::InitList(k) => write_instruction(notes, k, b" init list"),
-        Invalid::Port(k) => write_counted(notes, b"pim: bad input: program port ", k),
+        Invalid::Port(k) => write_bad_number(notes, b"program port ", k),
     }
 }
 
 /// Writes what is wrong with an instruction.
 fn write_instruction<E: Sink>(notes: &mut E, number: u32, text: &[u8]) -> Result<(), SinkFault>
-    ensures whole { OnOk result (TookAll (E.taken notes.old) (E.taken notes.new)
-        (codes "pim: bad input: " ++ ((codes "program instruction " ++ (decimal number ++ text.now)) ++ codes "\n"))) }
-    ensures prefix { OnErr result (TookFirst (E.taken notes.old) (E.taken notes.new)
-        (codes "pim: bad input: " ++ ((codes "program instruction " ++ (decimal number ++ text.now)) ++ codes "\n"))) }
-    ensures counted { OnErr result (Rose (E.faults notes.old) (E.faults notes.new)) }
+    ensures { WroteLine E.taken E.faults notes.old notes.new (instruction_text number text.now) result }
 {
     let mut digits = Buffer::new();
-    write_all(notes, b"pim: bad input: program instruction ")?;
-    write_line(notes, digits.format(number).as_bytes(), text)?;
-    Ok(())
-}
-
-/// Writes the fault of an AIGER file with its byte place, or that of its netlist with the signals' labels.
-fn write_aiger<E: Sink>(notes: &mut E, fault: &AigerFault) -> Result<(), SinkFault>
-    ensures whole { OnOk result (TookAll (E.taken notes.old) (E.taken notes.new)
-        (codes "pim: bad input: " ++ (aiger_detail fault.now ++ codes "\n"))) }
-    ensures prefix { OnErr result (TookFirst (E.taken notes.old) (E.taken notes.new)
-        (codes "pim: bad input: " ++ (aiger_detail fault.now ++ codes "\n"))) }
-    ensures counted { OnErr result (Rose (E.faults notes.old) (E.faults notes.new)) }
-{
-    match fault {
-        AigerFault::Header => write_all(notes, b"pim: bad input: aiger header\n"),
-        AigerFault::Latches => write_all(notes, b"pim: bad input: aiger latches\n"),
-        AigerFault::Number(at) => {
-            write_counted(notes, b"pim: bad input: aiger number at byte ", *at)
-        }
-        AigerFault::Literal(at) => {
-            write_counted(notes, b"pim: bad input: aiger literal at byte ", *at)
-        }
-        AigerFault::Truncated(at) => {
-            write_counted(notes, b"pim: bad input: aiger truncated at byte ", *at)
-        }
-        AigerFault::Delta(at) => write_counted(notes, b"pim: bad input: aiger delta at byte ", *at),
-        AigerFault::Symbol(at) => {
-            write_counted(notes, b"pim: bad input: aiger symbol at byte ", *at)
-        }
-        AigerFault::Net(fault, names) => write_net(notes, fault, names),
-        AigerFault::TooLarge(_) => write_all(notes, b"pim: bad input: \n"),
-        AigerFault::NoMemory => write_all(notes, b"pim: bad input: \n"),
-    }
-}
-
-/// Writes the fault of a netlist with the labels of its signals.
-fn write_net<E: Sink>(notes: &mut E, fault: &NetFault, names: &Names) -> Result<(), SinkFault>
-    ensures whole { OnOk result (TookAll (E.taken notes.old) (E.taken notes.new)
-        (codes "pim: bad input: " ++ (net_detail fault.now names.now ++ codes "\n"))) }
-    ensures prefix { OnErr result (TookFirst (E.taken notes.old) (E.taken notes.new)
-        (codes "pim: bad input: " ++ (net_detail fault.now names.now ++ codes "\n"))) }
-    ensures counted { OnErr result (Rose (E.faults notes.old) (E.faults notes.new)) }
-{
-    match fault {
-        NetFault::Twice(signal) => write_line(
-            notes,
-            b"pim: bad input: driven twice ",
-            label_of(names, *signal),
-        ),
-        NetFault::Undriven(signal) => write_line(
-            notes,
-            b"pim: bad input: undriven ",
-            label_of(names, *signal),
-        ),
-        NetFault::Cycle(signals) => write_cycle(notes, signals.list(), names),
-        NetFault::NoMemory => write_all(notes, b"pim: bad input: \n"),
-    }
+    let pieces = [
+        b"pim: ".as_slice(),
+        b"bad input: ",
+        b"program instruction ",
+        digits.format(number).as_bytes(),
+        text,
+        b"\n",
+    ];
+    write_pieces(notes, &pieces)
 }
 
 /// Writes that these signals are a cycle, with their labels.
 fn write_cycle<E: Sink>(notes: &mut E, signals: &[u32], names: &Names) -> Result<(), SinkFault>
-    ensures whole { OnOk result (TookAll (E.taken notes.old) (E.taken notes.new)
-        (codes "pim: bad input: cycle" ++ (cycle_labels names.now signals.now ++ codes "\n"))) }
-    ensures prefix { OnErr result (TookFirst (E.taken notes.old) (E.taken notes.new)
-        (codes "pim: bad input: cycle" ++ (cycle_labels names.now signals.now ++ codes "\n"))) }
-    ensures counted { OnErr result (Rose (E.faults notes.old) (E.faults notes.new)) }
+    ensures { WroteLine E.taken E.faults notes.old notes.new (bad (codes "cycle" ++ cycle_labels names.now signals.now)) result }
 {
-    write_all(notes, b"pim: bad input: cycle")?;
+    tell_writes();
+    write_pieces(notes, &[b"pim: ".as_slice(), b"bad input: ", b"cycle"])?;
     write_labels(notes, signals, names)?;
-    Ok(())
+    write_all(notes, b"\n")
 }
 
-/// Writes the labels of signals, each after a space, and a newline.
+/// Writes the labels of signals, each after a space.
 fn write_labels<E: Sink>(notes: &mut E, signals: &[u32], names: &Names) -> Result<(), SinkFault>
-    ensures whole { OnOk result (TookAll (E.taken notes.old) (E.taken notes.new)
-        (cycle_labels names.now signals.now ++ codes "\n")) }
-    ensures prefix { OnErr result (TookFirst (E.taken notes.old) (E.taken notes.new)
-        (cycle_labels names.now signals.now ++ codes "\n")) }
-    ensures counted { OnErr result (Rose (E.faults notes.old) (E.faults notes.new)) }
+    ensures { Wrote result (E.taken notes.old) (E.taken notes.new) (E.faults notes.old) (E.faults notes.new) (cycle_labels names.now signals.now) }
 {
+    tell_writes();
     for signal in signals {
-        write_both(notes, b" ", label_of(names, *signal))?;
+        write_pieces(notes, &[b" ".as_slice(), label_of(names, *signal)])?;
     }
-    write_all(notes, b"\n")?;
     Ok(())
 }
 
-/// Writes a text, a number in decimal and a newline.
-fn write_counted<E: Sink>(notes: &mut E, text: &[u8], number: u32) -> Result<(), SinkFault>
-    ensures whole { OnOk result (TookAll (E.taken notes.old) (E.taken notes.new)
-        (text.now ++ (decimal number ++ codes "\n"))) }
-    ensures prefix { OnErr result (TookFirst (E.taken notes.old) (E.taken notes.new)
-        (text.now ++ (decimal number ++ codes "\n"))) }
-    ensures counted { OnErr result (Rose (E.faults notes.old) (E.faults notes.new)) }
+/// Writes that the input is bad, and what is wrong.
+fn write_bad<E: Sink>(notes: &mut E, text: &[u8]) -> Result<(), SinkFault>
+    ensures { WroteLine E.taken E.faults notes.old notes.new (bad text.now) result }
+{
+    write_two(notes, b"bad input: ", text)
+}
+
+/// The same, with a number behind it.
+fn write_bad_number<E: Sink>(notes: &mut E, text: &[u8], number: u32) -> Result<(), SinkFault>
+    ensures { WroteLine E.taken E.faults notes.old notes.new (bad (text.now ++ decimal number)) result }
 {
     let mut digits = Buffer::new();
-    write_line(notes, text, digits.format(number).as_bytes())
+    write_bad_two(notes, text, digits.format(number).as_bytes())
 }
 
-/// Writes two pieces and a newline.
-fn write_line<E: Sink>(notes: &mut E, first: &[u8], second: &[u8]) -> Result<(), SinkFault>
-    ensures whole { OnOk result (TookAll (E.taken notes.old) (E.taken notes.new)
-        (first.now ++ (second.now ++ codes "\n"))) }
-    ensures prefix { OnErr result (TookFirst (E.taken notes.old) (E.taken notes.new)
-        (first.now ++ (second.now ++ codes "\n"))) }
-    ensures counted { OnErr result (Rose (E.faults notes.old) (E.faults notes.new)) }
+/// The same, with a name behind it.
+fn write_bad_two<E: Sink>(notes: &mut E, text: &[u8], name: &[u8]) -> Result<(), SinkFault>
+    ensures { WroteLine E.taken E.faults notes.old notes.new (bad (text.now ++ name.now)) result }
 {
-    write_all(notes, first)?;
-    write_both(notes, second, b"\n")?;
-    Ok(())
+    write_pieces(
+        notes,
+        &[b"pim: ".as_slice(), b"bad input: ", text, name, b"\n"],
+    )
 }
 
-/// Writes two pieces.
-fn write_both<E: Sink>(notes: &mut E, first: &[u8], second: &[u8]) -> Result<(), SinkFault>
-    ensures whole { OnOk result (TookAll (E.taken notes.old) (E.taken notes.new) (first.now ++ second.now)) }
-    ensures prefix { OnErr result (TookFirst (E.taken notes.old) (E.taken notes.new) (first.now ++ second.now)) }
-    ensures counted { OnErr result (Rose (E.faults notes.old) (E.faults notes.new)) }
-    ensures never_falls { E.faults notes.old ≤ E.faults notes.new }
+/// Writes that a limit is passed, and the word for it.
+fn write_large<E: Sink>(notes: &mut E, word: &[u8]) -> Result<(), SinkFault>
+    ensures { WroteLine E.taken E.faults notes.old notes.new (large word.now) result }
 {
-    write_all(notes, first)?;
-    write_all(notes, second)?;
-    Ok(())
+    write_two(notes, b"too large: ", word)
+}
+
+/// Writes a text.
+fn write_text<E: Sink>(notes: &mut E, text: &[u8]) -> Result<(), SinkFault>
+    ensures { WroteLine E.taken E.faults notes.old notes.new text.now result }
+{
+    write_pieces(notes, &[b"pim: ".as_slice(), text, b"\n"])
+}
+
+/// Writes a text with a number behind it.
+fn write_number<E: Sink>(notes: &mut E, text: &[u8], number: u32) -> Result<(), SinkFault>
+    ensures { WroteLine E.taken E.faults notes.old notes.new (text.now ++ decimal number) result }
+{
+    let mut digits = Buffer::new();
+    write_two(notes, text, digits.format(number).as_bytes())
+}
+
+/// Writes two texts, one behind the other.
+fn write_two<E: Sink>(notes: &mut E, first: &[u8], second: &[u8]) -> Result<(), SinkFault>
+    ensures { WroteLine E.taken E.faults notes.old notes.new (first.now ++ second.now) result }
+{
+    write_pieces(notes, &[b"pim: ".as_slice(), first, second, b"\n"])
 }
 
 /// The label of a signal, and nothing where there is none of that number.
@@ -270,17 +270,23 @@ fn label_of(names: &Names, signal: u32) -> &[u8]
     }
 }
 
-/// The word for a limit.
-fn limit_word(limit: Limit) -> &'static [u8]
-    ensures { result.now ≡ limit_word limit }
+/// The name of a source.
+fn origin_word(origin: Origin) -> &'static [u8]
+    ensures { result.now ≡ origin_word origin }
 {
-    match limit {
-        Limit::Bytes(_) => b"bytes",
-        Limit::Nodes => b"nodes",
-        Limit::Rows => b"rows",
-        Limit::Cells => b"cells",
-        Limit::Netlist(Kind::Signals) => b"signals",
-        Limit::Netlist(Kind::Outputs) => b"outputs",
-        Limit::Netlist(Kind::Name) => b"name",
+    match origin {
+        Origin::Program => b"program",
+        Origin::Input => b"input",
+    }
+}
+
+/// The word for a limit of a netlist.
+fn kind_word(kind: Kind) -> &'static [u8]
+    ensures { result.now ≡ kind_word kind }
+{
+    match kind {
+        Kind::Signals => b"signals",
+        Kind::Outputs => b"outputs",
+        Kind::Name => b"name",
     }
 }

@@ -1,31 +1,32 @@
 //! The call itself: words in, a status out, and everything that is read and written on the way.
-ghost use Rattle.std.specs.Prelude.{◌≡◌, ◌≢◌, ◌⊎◌, ℕ, List, Some, map, true, false, IfErr, OnOk};
+ghost use Rattle.std.specs.Prelude.{◌≡◌, ◌≢◌, ◌⊎◌, ℕ, List, map, true, false};
 ghost use Rattle.std.specs.String.{string_bytes};
-ghost use Rattle.pim_io.specs.Outside.{Rose};
-ghost use Rattle.pim_isa.specs.declared.target.Fill.{Fill};
-ghost use Rattle.pim_words.specs.Plain.{IsPlain};
-ghost use Rattle.pim_words.specs.Reading.{is_usage};
+ghost use Rattle.pim_words.specs.Plain.{IsPlain, IsTaken};
+ghost use Rattle.pim_words.specs.Reading.{IsWithin as HasNumbers, command_said, is_usage};
 ghost use Rattle.pim_words.specs.declared.command.Command.{Command};
-ghost use Rattle.pim_top.specs.Outcomes.{IsCounted, IsCut, IsDone, IsExplained, IsFaulty, IsFaultyFile, IsFine, IsFineRun, IsRefused, IsRefusedRun, fill_of, level_of, says_run, target_of};
-ghost use Rattle.pim_top.specs.Notes.{IsNoted, note};
-ghost use Rattle.pim_top.specs.Runs.{IsIdle, IsOfFile};
-ghost use Rattle.pim_top.specs.Statuses.{status_of};
+ghost use Rattle.pim_top.specs.Answers.{IsFine};
+ghost use Rattle.pim_top.specs.Calls.{FileIsFine, HasEnded, IsCalm, IsDecided, IsDone, IsFileDecided, IsIdle, Ends, IsNoted, Obeys};
+ghost use Rattle.pim_io.specs.Outside.{Rose};
+ghost use Rattle.pim_top.specs.Notes.{refusal_note};
+ghost use Rattle.pim_top.specs.Reads.{IsApart, Tells, executes_rows, reads, streams};
+ghost use Rattle.pim_top.specs.Statuses.{answer_status};
+ghost use Rattle.pim_top.specs.Streams.{IsUntouched, seen, stream};
 
 use crate::Status;
-use crate::commands::{compile, run};
+use crate::commands::compile::Compile;
+use crate::commands::run::run;
 use crate::note::tell;
-use crate::refusal::Refusal;
-use pim_compile::{Level, Target};
+use crate::refusal::{Origin, Refusal};
+use crate::whole::write_text;
 use pim_io::{Sink, Source};
-use pim_isa::Fill;
-use pim_words::{Command, FillWord, LevelWord, TargetWord};
+use pim_words::{Command, WordsFault};
 use std::alloc::Global;
 
 /// Obeys the words: reads what the command wants, writes what it gives to `output`, and where it can't, one line to `notes`.
 ///
-/// `words` are those after the program's name. A failing notes sink changes nothing else. `compile` reads `input` and writes
-/// its text whole or not at all; `run` reads `program`, then `input` line by line, and writes the results of a tile of rows at a
-/// time.
+/// `words` are those after the program's name. A failing notes sink changes nothing else. A command that doesn't stream reads its
+/// sources to their end and writes its text whole or not at all; `run` reads `program`, then `input` line by line, and writes the
+/// results of a tile of rows at a time.
 pub fn pim<P: Source, S: Source, K: Sink, E: Sink>(
     alloc: Global,
     words: &[String],
@@ -34,75 +35,72 @@ pub fn pim<P: Source, S: Source, K: Sink, E: Sink>(
     output: &mut K,
     notes: &mut E,
 ) -> Status
-    // Where the sources and the output tell their bytes, the words say a command and the output took what it writes.
-    ensures done { result ≡ Status.Done → IsDone (map string_bytes words.now)
-        (P.left program.old) (P.left program.new) (S.left input.old) (S.left input.new) (K.taken output.old) (K.taken output.new) }
-    ensures cut { result ≡ Status.WriteFault → IsCut (map string_bytes words.now)
-        (P.left program.old) (P.left program.new) (S.left input.old) (S.left input.new) (K.taken output.old) (K.taken output.new) }
-    ensures refused { result ≢ Status.Done → IsRefused (map string_bytes words.now)
-        (P.left program.old) (P.left program.new) (S.left input.old) (S.left input.new) (K.taken output.old) (K.taken output.new)
-        (P.faults program.old) (P.faults program.new) (S.faults input.old) (S.faults input.new)
-        (K.faults output.old) (K.faults output.new)
-        (E.taken notes.old) (E.taken notes.new) (E.faults notes.old) (E.faults notes.new) result }
+    // The whole of it: an answer, what was done by the command that the words say, and the answer's note.
+    ensures ends { HasEnded (map string_bytes words.now) (seen (stream P.left P.faults program.old program.new)
+        (stream S.left S.faults input.old input.new) (stream K.taken K.faults output.old output.new))
+        (stream E.taken E.faults notes.old notes.new) result }
+
+    // Where the sources and the output tell their bytes, the output took what the command writes for them.
+    ensures done { result ≡ Status.Done → IsDone (map string_bytes words.now) (seen (stream P.left P.faults program.old program.new)
+        (stream S.left S.faults input.old input.new) (stream K.taken K.faults output.old output.new)) }
     ensures silent { result ≡ Status.Done → E.taken notes.new ≡ E.taken notes.old }
 
-    // What a refusal leaves: nothing was written, but for the tiles that `run` wrote before the line that is refused.
-    ensures nothing { result ≢ Status.Done → result ≢ Status.WriteFault → says_run (map string_bytes words.now) ≡ false
-        → K.taken output.new ≡ K.taken output.old }
-    ensures early { (result ≡ Status.Usage) ⊎ (result ≡ Status.NoMemory) → K.taken output.new ≡ K.taken output.old }
-    ensures no_late_memory { result ≡ Status.NoMemory → says_run (map string_bytes words.now) ≡ true
-        → S.left input.new ≡ S.left input.old }
+    // The words.
+    ensures usage { result ≡ Status.Usage → is_usage (map string_bytes words.now) ≡ true }
+    ensures accepted { result ≢ Status.Usage → result ≢ Status.NoMemory → is_usage (map string_bytes words.now) ≡ false }
+    ensures said { (command : Command) → IsPlain command (map string_bytes words.now)
+        → (command_said (map string_bytes words.now) ≡ Some command) × (result ≢ Status.Usage) }
+    ensures untouched { result ≡ Status.Usage → IsIdle (seen (stream P.left P.faults program.old program.new)
+        (stream S.left S.faults input.old input.new) (stream K.taken K.faults output.old output.new)) }
+    ensures apart { (command : Command) → command_said (map string_bytes words.now) ≡ Some command
+        → IsApart command (seen (stream P.left P.faults program.old program.new)
+        (stream S.left S.faults input.old input.new) (stream K.taken K.faults output.old output.new)) }
 
     // Each fault of the outside was counted in this call.
     ensures read_fault { result ≡ Status.ReadFault
         → Rose (P.faults program.old) (P.faults program.new) ⊎ Rose (S.faults input.old) (S.faults input.new) }
     ensures write_fault { result ≡ Status.WriteFault → Rose (K.faults output.old) (K.faults output.new) }
-    ensures usage { result ≡ Status.Usage → is_usage (map string_bytes words.now) ≡ true }
-    ensures accepted { result ≢ Status.Usage → result ≢ Status.NoMemory → is_usage (map string_bytes words.now) ≡ false }
-    ensures plain { (command : Command) → IsPlain command (map string_bytes words.now) → result ≢ Status.Usage }
 
-    // Bytes with a fault are a bad input, where the sources and the output tell their bytes and none of them failed.
-    ensures bad_input { (bytes before : List ℕ) → S.left input.old ≡ Some bytes → K.taken output.old ≡ Some before
-        → IsFaulty (map string_bytes words.now) bytes → ¬ Rose (S.faults input.old) (S.faults input.new)
-        → (result ≡ Status.BadInput) ⊎ (result ≡ Status.NoMemory) }
-    ensures bad_program { (file bytes before : List ℕ) → P.left program.old ≡ Some file → S.left input.old ≡ Some bytes
-        → K.taken output.old ≡ Some before → IsFaultyFile (map string_bytes words.now) file
+    // What was told decides the status, where no fault was counted: the program file by itself, or together with the input.
+    ensures file_decided { (command : Command) (file : List ℕ) → command_said (map string_bytes words.now) ≡ Some command
+        → is_usage (map string_bytes words.now) ≡ false
+        → Tells (reads command Origin.Program) (stream P.left P.faults program.old program.new) file
         → ¬ Rose (P.faults program.old) (P.faults program.new)
-        → (result ≡ Status.BadInput) ⊎ (result ≡ Status.NoMemory) }
-    ensures bad_vector { (file bytes before : List ℕ) (r : Refusal) → P.left program.old ≡ Some file → S.left input.old ≡ Some bytes
-        → K.taken output.old ≡ Some before → IsRefusedRun (map string_bytes words.now) file bytes r
-        → ¬ Rose (P.faults program.old) (P.faults program.new) → ¬ Rose (S.faults input.old) (S.faults input.new)
-        → ¬ Rose (K.faults output.old) (K.faults output.new)
-        → (result ≡ status_of r) ⊎ (result ≡ Status.NoMemory) }
+        → FileIsFine command file ⊎ (IsFileDecided command file result ⊎ (result ≡ Status.NoMemory)) }
+    ensures decided { (command : Command) (file bytes : List ℕ) → command_said (map string_bytes words.now) ≡ Some command
+        → is_usage (map string_bytes words.now) ≡ false
+        → Tells (reads command Origin.Program) (stream P.left P.faults program.old program.new) file
+        → Tells (reads command Origin.Input) (stream S.left S.faults input.old input.new) bytes
+        → IsCalm (seen (stream P.left P.faults program.old program.new)
+        (stream S.left S.faults input.old input.new) (stream K.taken K.faults output.old output.new))
+        → IsDecided command file bytes result ⊎ (result ≡ Status.NoMemory) }
+    ensures complete { (command : Command) (file bytes : List ℕ) → command_said (map string_bytes words.now) ≡ Some command
+        → is_usage (map string_bytes words.now) ≡ false
+        → Tells (reads command Origin.Program) (stream P.left P.faults program.old program.new) file
+        → Tells (reads command Origin.Input) (stream S.left S.faults input.old input.new) bytes
+        → IsCalm (seen (stream P.left P.faults program.old program.new)
+        (stream S.left S.faults input.old input.new) (stream K.taken K.faults output.old output.new))
+        → IsFine command file bytes
+        → (result ≡ Status.Done) ⊎ (result ≡ Status.NoMemory) }
 
-    // Words and bytes without a fault, and no fault of the outside, give the text or want of memory.
-    ensures complete { (bytes before : List ℕ) → S.left input.old ≡ Some bytes → K.taken output.old ≡ Some before
-        → IsFine (map string_bytes words.now) bytes
-        → ¬ Rose (S.faults input.old) (S.faults input.new) → ¬ Rose (K.faults output.old) (K.faults output.new)
-        → (result ≡ Status.Done) ⊎ (result ≡ Status.NoMemory) }
-    ensures run_complete { (file bytes before : List ℕ) → P.left program.old ≡ Some file → S.left input.old ≡ Some bytes
-        → K.taken output.old ≡ Some before → IsFineRun (map string_bytes words.now) file bytes
-        → ¬ Rose (P.faults program.old) (P.faults program.new) → ¬ Rose (S.faults input.old) (S.faults input.new)
-        → ¬ Rose (K.faults output.old) (K.faults output.new)
-        → (result ≡ Status.Done) ⊎ (result ≡ Status.NoMemory) }
+    // What a refusal leaves.
+    ensures nothing { (command : Command) → command_said (map string_bytes words.now) ≡ Some command → streams command ≡ false
+        → result ≢ Status.Done → result ≢ Status.WriteFault → IsUntouched (stream K.taken K.faults output.old output.new) }
+    ensures no_late_memory { (command : Command) → command_said (map string_bytes words.now) ≡ Some command → executes_rows command ≡ true
+        → result ≡ Status.NoMemory → IsUntouched (stream S.left S.faults input.old input.new) × IsUntouched (stream K.taken K.faults output.old output.new) }
 {
-    match obey(alloc, words, program, input, output) {
-        Ok(()) => Status::Done,
-        Err(refusal) => {
-            tell(&refusal, notes);
-            refusal.status()
-        }
-    }
+    let answer = obey(alloc, words, program, input, output);
+    tell(&answer, notes);
+    status_of(&answer)
 }
 
 /// Ends a call for whose words there is no memory: writes the note of that, and gives its status.
 pub fn no_memory<E: Sink>(notes: &mut E) -> Status
     ensures status { result ≡ Status.NoMemory }
-    ensures noted { IsNoted (E.taken notes.old) (E.taken notes.new) (E.faults notes.old) (E.faults notes.new) (note Refusal.NoMemory) }
+    ensures noted { IsNoted (stream E.taken E.faults notes.old notes.new) (refusal_note Refusal.NoMemory) }
 {
-    let refusal = Refusal::NoMemory;
-    tell(&refusal, notes);
-    refusal.status()
+    tell(&Err(Refusal::NoMemory), notes);
+    Status::NoMemory
 }
 
 /// Reads the words, and does what their command does.
@@ -113,73 +111,54 @@ fn obey<P: Source, S: Source, K: Sink>(
     input: &mut S,
     output: &mut K,
 ) -> Result<(), Refusal>
-    ensures done { OnOk result (IsDone (map string_bytes words.now)
-        (P.left program.old) (P.left program.new) (S.left input.old) (S.left input.new) (K.taken output.old) (K.taken output.new)) }
-    ensures explained { IfErr result (IsExplained (map string_bytes words.now)
-        (P.left program.old) (P.left program.new) (S.left input.old) (S.left input.new) (K.taken output.old) (K.taken output.new)) }
-    ensures counted { IfErr result (IsCounted (P.faults program.old) (P.faults program.new)
-        (S.faults input.old) (S.faults input.new) (K.faults output.old) (K.faults output.new)) }
-    ensures cut { IfErr result (λ refusal. status_of refusal ≡ Status.WriteFault → IsCut (map string_bytes words.now)
-        (P.left program.old) (P.left program.new) (S.left input.old) (S.left input.new) (K.taken output.old) (K.taken output.new)) }
-    ensures nothing { IfErr result (λ refusal. status_of refusal ≢ Status.WriteFault → says_run (map string_bytes words.now) ≡ false
-        → K.taken output.new ≡ K.taken output.old) }
-    ensures early { IfErr result (λ refusal. (status_of refusal ≡ Status.Usage) ⊎ (status_of refusal ≡ Status.NoMemory)
-        → K.taken output.new ≡ K.taken output.old) }
-    ensures no_late_memory { IfErr result (λ refusal. status_of refusal ≡ Status.NoMemory → says_run (map string_bytes words.now) ≡ true
-        → S.left input.new ≡ S.left input.old) }
-    ensures usage { IfErr result (λ refusal. status_of refusal ≡ Status.Usage → is_usage (map string_bytes words.now) ≡ true) }
-    ensures accepted { IfErr result (λ refusal. status_of refusal ≢ Status.Usage → status_of refusal ≢ Status.NoMemory → is_usage (map string_bytes words.now) ≡ false) }
-    ensures plain { IfErr result (λ refusal. (command : Command) → IsPlain command (map string_bytes words.now) → status_of refusal ≢ Status.Usage) }
-    ensures idle { IfErr result (λ refusal. IsOfFile refusal
-        → IsIdle (S.left input.old) (S.left input.new) (K.taken output.old) (K.taken output.new)) }
-    ensures valid { OnOk result (is_usage (map string_bytes words.now) ≡ false) }
-    ensures ends { IfErr result (λ refusal. status_of refusal ≢ Status.Done) }
+    ensures obeys { Obeys (map string_bytes words.now) (seen (stream P.left P.faults program.old program.new)
+        (stream S.left S.faults input.old input.new) (stream K.taken K.faults output.old output.new)) result }
+    ensures said { (command : Command) → IsPlain command (map string_bytes words.now) → IsTaken command (map string_bytes words.now) }
 {
-    let command = match pim_words::read(alloc, words) {
-        Ok(command) => command,
-        Err(fault) => return Err(Refusal::of_words(&fault)),
-    };
+    match pim_words::read(alloc, words) {
+        Ok(command) => execute(alloc, command, program, input, output),
+        Err(WordsFault::Usage) => Err(Refusal::Usage),
+        Err(WordsFault::NoMemory) => Err(Refusal::NoMemory),
+    }
+}
+
+/// Does what a command does.
+fn execute<P: Source, S: Source, K: Sink>(
+    alloc: Global,
+    command: Command,
+    program: &mut P,
+    input: &mut S,
+    output: &mut K,
+) -> Result<(), Refusal>
+    requires { HasNumbers command }
+    ensures ends { Ends command (seen (stream P.left P.faults program.old program.new)
+        (stream S.left S.faults input.old input.new) (stream K.taken K.faults output.old output.new)) result }
+    ensures apart { IsApart command (seen (stream P.left P.faults program.old program.new)
+        (stream S.left S.faults input.old input.new) (stream K.taken K.faults output.old output.new)) }
+{
     match command {
         Command::Compile {
             target,
             level,
             cells,
         } => {
-            let options = compile::Options {
-                target: target_of(target),
-                level: level_of(level),
+            let compile = Compile {
+                target,
+                level,
                 cells,
             };
-            compile::compile_input(alloc, &options, input, output)
+            write_text(alloc, &compile, program, input, output)
         }
-        Command::Run { fill } => run::run(alloc, fill_of(fill), program, input, output),
+        Command::Run { fill } => run(alloc, fill, program, input, output),
     }
 }
 
-/// The machine that a word of `--target` names.
-fn target_of(word: TargetWord) -> Target
-    ensures { result ≡ target_of word }
+/// The status of a call's answer.
+fn status_of(answer: &Result<(), Refusal>) -> Status
+    ensures { result ≡ answer_status answer.now }
 {
-    match word {
-        TargetWord::Magic => Target::Magic,
-    }
-}
-
-/// The effort that a word of `--level` names.
-fn level_of(word: LevelWord) -> Level
-    ensures { result ≡ level_of word }
-{
-    match word {
-        LevelWord::Zero => Level::Zero,
-    }
-}
-
-/// The filling that a word of `--fill` names.
-fn fill_of(word: FillWord) -> Fill
-    ensures { result ≡ fill_of word }
-{
-    match word {
-        FillWord::Zeros => Fill::Zeros,
-        FillWord::Ones => Fill::Ones,
+    match answer {
+        Ok(()) => Status::Done,
+        Err(refusal) => refusal.status(),
     }
 }

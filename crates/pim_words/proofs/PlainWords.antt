@@ -19,7 +19,7 @@ use Rattle.clap.proofs.ValueTestLemmas.{Accepts-accepts}
 use Rattle.clap.proofs.OnLiterals.{clap_on_literals}
 use Rattle.pim_words.proofs.CompileLine.{no_plus}
 use Rattle.pim_words.specs.Lines.{compile_line}
-use Rattle.pim_words.specs.Plain.{IsPlain, compile_words, fill_words, level_words, run_words}
+use Rattle.pim_words.specs.Plain.{IsPlain, IsTaken, compile_words, fill_words, level_words, run_words}
 use Rattle.pim_words.specs.Reading.{command_said, compile_with, is_usage, number_of}
 use Rattle.pim_words.specs.declared.command.Command.{Command}
 use Rattle.pim_words.specs.declared.command.Command.TheVariants.{Compile, Run}
@@ -88,10 +88,6 @@ taken (d ∷ ds) numeral small =
     let range = digit_from_value d numeral.1.0 in
     let is : 48 + (d - 48) ≡ d = omega (arith, range) in
     subst TakesAt is (digit (d - 48) (omega (arith, range))) ds (number_taken (d ∷ ds) numeral small)
-
--- the words are no usage, and say the command
-abbrev IsTaken : Command → List Text → Type 0
-IsTaken c words = (is_usage words ≡ false) × (command_said words ≡ Some c)
 
 compile_words_taken : (n : ℕ) (rest : List Text) → n ≤ 1048576
     → Takes (compile_words Magic (decimal n) ++ rest) (decimal n) → IsTaken (Compile Magic Zero n) (compile_words Magic (decimal n) ++ rest)

@@ -1,7 +1,8 @@
 -- The words of a command as plain as they come.
-use Rattle.std.specs.Prelude.{◌≡◌, ◌⊎◌, ◌≤◌, ◌++◌, ◌∷◌, [], List, codes}
+use Rattle.std.specs.Prelude.{◌≡◌, ◌⊎◌, ◌≤◌, ◌++◌, ◌∷◌, [], List, Some, codes, false}
 use Rattle.std.specs.Fmt.{decimal}
 use Rattle.clap.specs.Words.{Text}
+use Rattle.pim_words.specs.Reading.{command_said, is_usage}
 use Rattle.pim_words.specs.declared.command.Command.{Command}
 use Rattle.pim_words.specs.declared.command.Command.TheVariants.{Compile, Run}
 use Rattle.pim_words.specs.declared.command.FillWord.{FillWord}
@@ -43,3 +44,7 @@ IsPlain (Compile target level cells) words = (cells ≤ 1048576)
     ⊎ (words ≡ compile_words target (decimal cells) ++ level_words level))
 IsPlain (Run fill) words = (file : Text)
     × (((fill ≡ Zeros) × (words ≡ run_words file)) ⊎ (words ≡ run_words file ++ fill_words fill))
+
+-- the words are no usage, and say the command
+abbrev pub IsTaken : Command → List Text → Type 0
+IsTaken c words = (is_usage words ≡ false) × (command_said words ≡ Some c)

@@ -2,7 +2,7 @@
 ghost use Rattle.std.specs.Prelude.{◌≡◌, IfOk, MatchResult, OnOk, false, map, true};
 ghost use Rattle.std.specs.String.{string_bytes};
 ghost use Rattle.pim_words.specs.declared.command.Command.{Command};
-ghost use Rattle.pim_words.specs.Plain.{IsPlain};
+ghost use Rattle.pim_words.specs.Plain.{IsPlain, IsTaken};
 ghost use Rattle.pim_words.specs.Program.{lacks_program};
 ghost use Rattle.pim_words.specs.Reading.{IsWithin, command_said, is_usage, names_command};
 
@@ -20,6 +20,7 @@ use std::alloc::Global;
 /// wish for help among these. The file is the second word, whatever it begins with, and `clap`
 /// does not read it. That memory was wanting is claimed nowhere: `NoMemory` may come wherever a
 /// command is named and has its file, where it takes one.
+#[tactic(auto, using(crate::proofs::PlainWords::plain_taken))]
 pub fn read(alloc: Global, words: &[String]) -> Result<Command, WordsFault>
     ensures usage { result ≡ Err WordsFault.Usage → is_usage (map string_bytes words.now) ≡ true }
     ensures accepted { OnOk result (is_usage (map string_bytes words.now) ≡ false) }
@@ -29,6 +30,8 @@ pub fn read(alloc: Global, words: &[String]) -> Result<Command, WordsFault>
         → result ≡ Err WordsFault.Usage }
     ensures plain { (c : Command) → IsPlain c (map string_bytes words.now)
         → MatchResult result (λ r. r ≡ c) (λ e. e ≡ WordsFault.NoMemory) }
+    ensures said { (c : Command) → IsPlain c (map string_bytes words.now)
+        → IsTaken c (map string_bytes words.now) }
     ensures value { IfOk result (λ c. command_said (map string_bytes words.now) ≡ Some c) }
     ensures within { IfOk result IsWithin }
 {

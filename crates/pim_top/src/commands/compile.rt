@@ -1,89 +1,88 @@
 //! `compile`: a netlist becomes the text of a program.
-ghost use Rattle.std.specs.Prelude.{◌≡◌, ◌≢◌, ◌≤◌, length, IfErr, IfOk, OnOk};
-ghost use Rattle.pim_io.specs.Outside.{Rose};
+ghost use Rattle.std.specs.Prelude.{◌≡◌, ◌⊎◌, ◌≤◌, length, IfErr, IfOk};
 ghost use Rattle.pim_isa.specs.declared.draft.TheConstants.{MAX_CELLS};
-ghost use Rattle.pim_top.specs.Compiled.{Compiled, CompilesWhole};
-ghost use Rattle.pim_top.specs.Refusals.{compile_refusal, CompileRefuses, Explains};
-ghost use Rattle.pim_top.specs.Cuts.{Cuts};
-ghost use Rattle.pim_top.specs.Runs.{IsOfFile};
-ghost use Rattle.pim_top.specs.Statuses.{IsInner};
+ghost use Rattle.pim_words.specs.declared.command.Command.TheVariants as commands;
+ghost use Rattle.pim_top.specs.Answers.{IsWanting};
+ghost use Rattle.pim_top.specs.commands.Compile.{CompileAnswers, level_of, target_of};
 
-use crate::input::bytes_of;
+use crate::judgement::Judgement;
 use crate::netlist;
-use crate::refusal::{Limit, Origin, Refusal};
+use crate::refusal::Origin;
+use crate::whole::WholeText;
 use pim_compile::{Level, Target, compile};
-use pim_io::{Sink, Source, write_all};
+use pim_io::MAX_INPUT;
+use pim_words::{LevelWord, TargetWord};
 use std::alloc::Global;
 
-/// The options of `compile`.
-#[derive(Clone, Copy)]
-pub struct Options {
-    pub target: Target,
-    pub level: Level,
-    /// How many cells the program may use: at most `MAX_CELLS`.
+/// The words of `compile`.
+#[derive(Clone, Copy, Debug)]
+pub struct Compile {
+    pub target: TargetWord,
+    pub level: LevelWord,
+    /// How many cells the program may use.
     pub cells: u32,
+    ghost fits: { cells ≤ MAX_CELLS },
 }
 
-/// The greatest number of bytes that are read of a netlist.
-const INPUT_BYTES: u32 = 67_108_864;
+impl WholeText for Compile {
+    type Opened = ();
 
-/// Reads a netlist to its end, and writes the text of the program that it compiles to.
-pub fn compile_input<S: Source, K: Sink>(
-    alloc: Global,
-    options: &Options,
-    input: &mut S,
-    output: &mut K,
-) -> Result<(), Refusal>
-    requires cells { options.now.cells ≤ MAX_CELLS }
-    ensures done { OnOk result (CompilesWhole options.now.cells
-        (S.left input.old) (S.left input.new) (K.taken output.old) (K.taken output.new)) }
-    ensures explained { IfErr result (CompileRefuses options.now.cells (S.left input.old) (S.left input.new)) }
-    ensures cut { IfErr result (Cuts options.now.cells
-        (S.left input.old) (S.left input.new) (K.taken output.old) (K.taken output.new)) }
-    ensures read_fault { IfErr result (λ refusal. (o : Origin) → refusal ≡ Refusal.ReadFault o
-        → (o ≡ Origin.Input) × Rose (S.faults input.old) (S.faults input.new)) }
-    ensures write_fault { IfErr result (λ refusal. refusal ≡ Refusal.WriteFault → Rose (K.faults output.old) (K.faults output.new)) }
-    ensures inside { IfErr result (λ refusal. refusal ≢ Refusal.Usage) }
-    ensures apart { IfErr result (λ refusal. ¬ IsOfFile refusal) }
-{
-    let bytes = bytes_of(alloc, input, Origin::Input, INPUT_BYTES)?;
-    let text = text(alloc, bytes.as_slice(), options)?;
-    match write_all(output, text.as_slice()) {
-        Ok(()) => Ok(()),
-        Err(_) => Err(Refusal::WriteFault),
+    ghost command = { λ c. commands.Compile c.target c.level c.cells };
+
+    ghost opens = { λ c file opened. Unit {0} };
+
+    fn reads(&self, origin: Origin) -> Option<u32> {
+        match origin {
+            Origin::Program => None,
+            Origin::Input => Some(MAX_INPUT),
+        }
+    }
+
+    fn open(&self, _alloc: Global, _file: &[u8]) -> Result<(), Judgement> {
+        Ok(())
+    }
+
+    fn text(&self, alloc: Global, _opened: &(), input: &[u8]) -> Result<Vec<u8>, Judgement> {
+        text_of(alloc, *self, input)
     }
 }
 
 /// The text of the program that a netlist compiles to.
-fn text(alloc: Global, bytes: &[u8], options: &Options) -> Result<Vec<u8>, Refusal>
-    requires bytes { length bytes.now ≤ 67108864 }
-    requires cells { options.now.cells ≤ MAX_CELLS }
-    ensures written { IfOk result (λ text. Compiled bytes.now options.now.cells text.items) }
-    ensures refused { IfErr result IsInner }
-    ensures explained { IfErr result (Explains bytes.now options.now.cells) }
+fn text_of(alloc: Global, words: Compile, bytes: &[u8]) -> Result<Vec<u8>, Judgement>
+    requires { length bytes.now ≤ MAX_INPUT }
+    ensures text { IfOk result (λ text. CompileAnswers words.target words.level words.cells bytes.now (Ok text.items)) }
+    ensures refused { IfErr result (λ j. IsWanting j ⊎ CompileAnswers words.target words.level words.cells bytes.now (Err j)) }
 {
     let net = match netlist::read(alloc, bytes) {
         Ok(net) => net,
-        Err(fault) => return Err(Refusal::of_netlist(fault)),
+        Err(fault) => return Err(Judgement::Netlist(fault)),
     };
-    let program = match compile(alloc, &net, options.target, options.level, options.cells) {
+    let target = target_of(words.target);
+    let level = level_of(words.level);
+    let program = match compile(alloc, &net, target, level, words.cells) {
         Ok(program) => program,
-        Err(refusal) => return Err(of_compile(&refusal)),
+        Err(refusal) => return Err(Judgement::Compile(refusal)),
     };
     match pim_file::print(alloc, &program) {
         Ok(text) => Ok(text),
-        Err(_) => Err(Refusal::NoMemory),
+        Err(_) => Err(Judgement::NoMemory),
     }
 }
 
-/// The refusal that one of the compiler comes to.
-fn of_compile(refusal: &pim_compile::Refusal) -> Refusal
-    ensures value { result ≡ compile_refusal refusal.now }
-    ensures inner { IsInner result }
+/// The machine that a word of `--target` names.
+fn target_of(word: TargetWord) -> Target
+    ensures { result ≡ target_of word }
 {
-    match refusal {
-        pim_compile::Refusal::TooFewCells { needed } => Refusal::TooFewCells { needed: *needed },
-        pim_compile::Refusal::TooLarge => Refusal::TooLarge(Limit::Nodes),
-        pim_compile::Refusal::NoMemory => Refusal::NoMemory,
+    match word {
+        TargetWord::Magic => Target::Magic,
+    }
+}
+
+/// The effort that a word of `--level` names.
+fn level_of(word: LevelWord) -> Level
+    ensures { result ≡ level_of word }
+{
+    match word {
+        LevelWord::Zero => Level::Zero,
     }
 }

@@ -1,55 +1,33 @@
+use Rattle.std.proofs.Common.{List, ℕ, subst}
+use Rattle.pim_top.specs.Notes.{large}
+use Rattle.pim_top.specs.inner.Writing.{WroteLine}
 use Rattle.pim_top.proofs.note.write_aiger.Goals as goal
 
-pub returns-in-Header-clause-whole : goal.returns-in-Header-clause-whole
-returns-in-Header-clause-whole g c = rw c.in-Header.is c.write_all.ensures.whole
+pub returns-in-Header : goal.returns-in-Header
+returns-in-Header g c = rw c.in-Header.is c.write_bad.ensures
 
-pub returns-in-Header-clause-prefix : goal.returns-in-Header-clause-prefix
-returns-in-Header-clause-prefix g c = rw c.in-Header.is c.write_all.ensures.prefix
+pub returns-in-Latches : goal.returns-in-Latches
+returns-in-Latches g c = rw c.in-Latches.is c.write_bad-in-Latches.ensures
 
-pub returns-in-Latches-clause-whole : goal.returns-in-Latches-clause-whole
-returns-in-Latches-clause-whole g c = rw c.in-Latches.is c.write_all-in-Latches.ensures.whole
+pub returns-in-Number : goal.returns-in-Number
+returns-in-Number g c = rw c.in-Number.is c.write_bad_number.ensures
 
-pub returns-in-Latches-clause-prefix : goal.returns-in-Latches-clause-prefix
-returns-in-Latches-clause-prefix g c = rw c.in-Latches.is c.write_all-in-Latches.ensures.prefix
+pub returns-in-Literal : goal.returns-in-Literal
+returns-in-Literal g c = rw c.in-Literal.is c.write_bad_number-in-Literal.ensures
 
-pub returns-in-Number-clause-whole : goal.returns-in-Number-clause-whole
-returns-in-Number-clause-whole g c = rw c.in-Number.is c.write_counted.ensures.whole
+pub returns-in-Truncated : goal.returns-in-Truncated
+returns-in-Truncated g c = rw c.in-Truncated.is c.write_bad_number-in-Truncated.ensures
 
-pub returns-in-Number-clause-prefix : goal.returns-in-Number-clause-prefix
-returns-in-Number-clause-prefix g c = rw c.in-Number.is c.write_counted.ensures.prefix
+pub returns-in-Delta : goal.returns-in-Delta
+returns-in-Delta g c = rw c.in-Delta.is c.write_bad_number-in-Delta.ensures
 
-pub returns-in-Literal-clause-whole : goal.returns-in-Literal-clause-whole
-returns-in-Literal-clause-whole g c = rw c.in-Literal.is c.write_counted-in-Literal.ensures.whole
+pub returns-in-Symbol : goal.returns-in-Symbol
+returns-in-Symbol g c = rw c.in-Symbol.is c.write_bad_number-in-Symbol.ensures
 
-pub returns-in-Literal-clause-prefix : goal.returns-in-Literal-clause-prefix
-returns-in-Literal-clause-prefix g c = rw c.in-Literal.is c.write_counted-in-Literal.ensures.prefix
+pub returns-in-NoMemory : goal.returns-in-NoMemory
+returns-in-NoMemory g c = rw c.in-NoMemory.is c.write_text.ensures
 
-pub returns-in-Truncated-clause-whole : goal.returns-in-Truncated-clause-whole
-returns-in-Truncated-clause-whole g c = rw c.in-Truncated.is c.write_counted-in-Truncated.ensures.whole
-
-pub returns-in-Truncated-clause-prefix : goal.returns-in-Truncated-clause-prefix
-returns-in-Truncated-clause-prefix g c = rw c.in-Truncated.is c.write_counted-in-Truncated.ensures.prefix
-
-pub returns-in-Delta-clause-whole : goal.returns-in-Delta-clause-whole
-returns-in-Delta-clause-whole g c = rw c.in-Delta.is c.write_counted-in-Delta.ensures.whole
-
-pub returns-in-Delta-clause-prefix : goal.returns-in-Delta-clause-prefix
-returns-in-Delta-clause-prefix g c = rw c.in-Delta.is c.write_counted-in-Delta.ensures.prefix
-
-pub returns-in-Symbol-clause-whole : goal.returns-in-Symbol-clause-whole
-returns-in-Symbol-clause-whole g c = rw c.in-Symbol.is c.write_counted-in-Symbol.ensures.whole
-
-pub returns-in-Symbol-clause-prefix : goal.returns-in-Symbol-clause-prefix
-returns-in-Symbol-clause-prefix g c = rw c.in-Symbol.is c.write_counted-in-Symbol.ensures.prefix
-
-pub returns-in-TooLarge-clause-whole : goal.returns-in-TooLarge-clause-whole
-returns-in-TooLarge-clause-whole g c = rw c.in-TooLarge.is c.write_all-in-TooLarge.ensures.whole
-
-pub returns-in-TooLarge-clause-prefix : goal.returns-in-TooLarge-clause-prefix
-returns-in-TooLarge-clause-prefix g c = rw c.in-TooLarge.is c.write_all-in-TooLarge.ensures.prefix
-
-pub returns-in-NoMemory-clause-whole : goal.returns-in-NoMemory-clause-whole
-returns-in-NoMemory-clause-whole g c = rw c.in-NoMemory.is c.write_all-in-NoMemory.ensures.whole
-
-pub returns-in-NoMemory-clause-prefix : goal.returns-in-NoMemory-clause-prefix
-returns-in-NoMemory-clause-prefix g c = rw c.in-NoMemory.is c.write_all-in-NoMemory.ensures.prefix
+pub returns-in-TooLarge : goal.returns-in-TooLarge
+returns-in-TooLarge g c =
+    let F : List ℕ → Type 0 = λ w. WroteLine g.E.Sink.taken g.E.Sink.faults c.args.notes.now c.write_large.new.notes (large w) c.write_large.result in
+    rw c.in-TooLarge.is (subst F c.kind_word.ensures c.write_large.ensures)

@@ -1,43 +1,24 @@
+use Rattle.std.proofs.Common.{List, ℕ, subst}
+use Rattle.pim_top.specs.Notes.{large}
+use Rattle.pim_top.specs.inner.Writing.{WroteLine}
 use Rattle.pim_top.proofs.note.write_blif.Goals as goal
 
-pub returns-in-Syntax-clause-whole : goal.returns-in-Syntax-clause-whole
-returns-in-Syntax-clause-whole g c = rw c.in-Syntax.is c.write_at_line.ensures.whole
+pub returns-in-Syntax : goal.returns-in-Syntax
+returns-in-Syntax g c = rw c.in-Syntax.is c.write_blif_line.ensures
 
-pub returns-in-Syntax-clause-prefix : goal.returns-in-Syntax-clause-prefix
-returns-in-Syntax-clause-prefix g c = rw c.in-Syntax.is c.write_at_line.ensures.prefix
+pub returns-in-RowWidth : goal.returns-in-RowWidth
+returns-in-RowWidth g c = rw c.in-RowWidth.is c.write_blif_line-in-RowWidth.ensures
 
-pub returns-in-RowWidth-clause-whole : goal.returns-in-RowWidth-clause-whole
-returns-in-RowWidth-clause-whole g c = rw c.in-RowWidth.is c.write_at_line-in-RowWidth.ensures.whole
+pub returns-in-MixedPhase : goal.returns-in-MixedPhase
+returns-in-MixedPhase g c = rw c.in-MixedPhase.is c.write_blif_line-in-MixedPhase.ensures
 
-pub returns-in-RowWidth-clause-prefix : goal.returns-in-RowWidth-clause-prefix
-returns-in-RowWidth-clause-prefix g c = rw c.in-RowWidth.is c.write_at_line-in-RowWidth.ensures.prefix
+pub returns-in-TwiceInput : goal.returns-in-TwiceInput
+returns-in-TwiceInput g c = rw c.in-TwiceInput.is c.write_blif_line-in-TwiceInput.ensures
 
-pub returns-in-MixedPhase-clause-whole : goal.returns-in-MixedPhase-clause-whole
-returns-in-MixedPhase-clause-whole g c = rw c.in-MixedPhase.is c.write_at_line-in-MixedPhase.ensures.whole
+pub returns-in-NoMemory : goal.returns-in-NoMemory
+returns-in-NoMemory g c = rw c.in-NoMemory.is c.write_text.ensures
 
-pub returns-in-MixedPhase-clause-prefix : goal.returns-in-MixedPhase-clause-prefix
-returns-in-MixedPhase-clause-prefix g c = rw c.in-MixedPhase.is c.write_at_line-in-MixedPhase.ensures.prefix
-
-pub returns-in-TwiceInput-clause-whole : goal.returns-in-TwiceInput-clause-whole
-returns-in-TwiceInput-clause-whole g c = rw c.in-TwiceInput.is c.write_at_line-in-TwiceInput.ensures.whole
-
-pub returns-in-TwiceInput-clause-prefix : goal.returns-in-TwiceInput-clause-prefix
-returns-in-TwiceInput-clause-prefix g c = rw c.in-TwiceInput.is c.write_at_line-in-TwiceInput.ensures.prefix
-
-pub returns-in-TooLarge-clause-whole : goal.returns-in-TooLarge-clause-whole
-returns-in-TooLarge-clause-whole g c = rw c.in-TooLarge.is c.write_all.ensures.whole
-
-pub returns-in-TooLarge-clause-prefix : goal.returns-in-TooLarge-clause-prefix
-returns-in-TooLarge-clause-prefix g c = rw c.in-TooLarge.is c.write_all.ensures.prefix
-
-pub returns-in-NoMemory-clause-whole : goal.returns-in-NoMemory-clause-whole
-returns-in-NoMemory-clause-whole g c = rw c.in-NoMemory.is c.write_all-in-NoMemory.ensures.whole
-
-pub returns-in-NoMemory-clause-prefix : goal.returns-in-NoMemory-clause-prefix
-returns-in-NoMemory-clause-prefix g c = rw c.in-NoMemory.is c.write_all-in-NoMemory.ensures.prefix
-
-pub returns-in-Unsupported-clause-whole : goal.returns-in-Unsupported-clause-whole
-returns-in-Unsupported-clause-whole g c = rw (c.in-Unsupported.is, ← c.bytes.ensures.value) c.write_unsupported.ensures.whole
-
-pub returns-in-Unsupported-clause-prefix : goal.returns-in-Unsupported-clause-prefix
-returns-in-Unsupported-clause-prefix g c = rw (c.in-Unsupported.is, ← c.bytes.ensures.value) c.write_unsupported.ensures.prefix
+pub returns-in-TooLarge : goal.returns-in-TooLarge
+returns-in-TooLarge g c =
+    let F : List ℕ → Type 0 = λ w. WroteLine g.E.Sink.taken g.E.Sink.faults c.args.notes.now c.write_large.new.notes (large w) c.write_large.result in
+    rw c.in-TooLarge.is (subst F c.kind_word.ensures c.write_large.ensures)

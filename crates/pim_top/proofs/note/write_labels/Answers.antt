@@ -1,25 +1,13 @@
-use Rattle.std.proofs.Common.{◌≡◌, ℕ, zero, suc, ◌+◌, ◌<◌, List, [], ◌∷◌, ◌++◌, codes, length, drop, get_or, refl, sym, ap, ◌∙◌, subst, arith, append_assoc}
+use Rattle.std.proofs.Common.{◌≡◌, ◌++◌, ◌+◌, ◌∙◌, List, ℕ, Ok, Err, codes, take, drop, ap, sym, subst, arith}
 use Rattle.std.proofs.lemmas.Result.{err_from_is_err_and}
-use Rattle.pim_io.specs.Outside.{TookAll, TookFirst}
+use Rattle.pim_io.specs.Outside.{Wrote}
+use Rattle.pim_io.specs.declared.sink.SinkFault.{SinkFault}
 use Rattle.pim_top.specs.Notes.{cycle_labels, label_of}
-use Rattle.pim_top.proofs.Took.{took_both, then_first, first_more}
+use Rattle.pim_top.proofs.CycleLabels.{labels-all, labels-more, labels-rest}
 use Rattle.pim_top.proofs.note.write_labels.Goals as goal
 
--- the label at place k comes before those that follow
-cycle_labels-drop : (names : List (List ℕ)) (signals : List ℕ) (k : ℕ) → k < length signals → cycle_labels names (drop k signals) ≡ (codes " " ++ label_of names (get_or signals k 0)) ++ cycle_labels names (drop (k + 1) signals)
-cycle_labels-drop names [] k h = absurd (omega arith)
-cycle_labels-drop names (s ∷ ss) zero h = refl
-cycle_labels-drop names (s ∷ ss) (suc k) h =
-    let next : suc k + 1 ≡ suc (k + 1) = omega arith in
-    rw next (cycle_labels-drop names ss k (omega arith))
-
--- the same with the newline at the end
-line-drop : (names : List (List ℕ)) (signals : List ℕ) (k : ℕ) (label : List ℕ) → k < length signals → label ≡ label_of names (get_or signals k 0) →
-    cycle_labels names (drop k signals) ++ codes "\n" ≡ (codes " " ++ label) ++ (cycle_labels names (drop (k + 1) signals) ++ codes "\n")
-line-drop names signals k label h e =
-    ap (λ (t : List ℕ). t ++ codes "\n") (cycle_labels-drop names signals k h)
-    ∙ append_assoc (codes " " ++ label_of names (get_or signals k 0)) (cycle_labels names (drop (k + 1) signals)) (codes "\n")
-    ∙ ap (λ (t : List ℕ). (codes " " ++ t) ++ (cycle_labels names (drop (k + 1) signals) ++ codes "\n")) (sym e)
+pub loop-signal-init : goal.loop-signal-init
+loop-signal-init g c = record { laws = c.tell_writes.ensures; wrote = c.tell_writes.ensures.none _ _ }
 
 pub loop-signal-preserved : goal.loop-signal-preserved
 loop-signal-preserved g c =
@@ -27,34 +15,47 @@ loop-signal-preserved g c =
     let signals = c.args.signals.now in
     let k = c.loop-signal.signal-index in
     let label : List ℕ = c.label_of.result.now in
-    let rest : List ℕ = cycle_labels names (drop (k + 1) signals) ++ codes "\n" in
-    let line : cycle_labels names (drop k signals) ++ codes "\n" ≡ (codes " " ++ label) ++ rest =
-    line-drop names signals k label c.loop-signal-test.true c.label_of.ensures in
+    let inv = c.loop-signal.invariant in
+    let start = g.E.Sink.taken c.args.notes.now in
+    let count = g.E.Sink.faults c.args.notes.now in
     let now = g.E.Sink.taken c.loop-signal.notes in
-    let next = g.E.Sink.taken c.write_both.new.notes in
+    let faults = g.E.Sink.faults c.loop-signal.notes in
+    let next = g.E.Sink.taken c.write_pieces.new.sink in
+    let more = g.E.Sink.faults c.write_pieces.new.sink in
+    let F : List ℕ → Type 0 = λ p. Wrote {A = Unit {0}} {E = SinkFault} (Ok tt) now next faults more (p ++ label) in
+    let W : List ℕ → Type 0 = λ t. Wrote {A = Unit {0}} {E = SinkFault} (Ok tt) start next count more t in
+    let piece = subst F c.as_slice.ensures c.in_ok-write_pieces.ensures.wrote in
+    let same : cycle_labels names (take k signals) ++ (codes " " ++ label) ≡ cycle_labels names (take (k + 1) signals) =
+    ap (λ (l : List ℕ). cycle_labels names (take k signals) ++ (codes " " ++ l)) c.label_of.ensures ∙ sym (labels-more names signals k c.loop-signal-test.true) in
     record {
-      never_falls = omega (arith, c.in_ok-write_both.ensures.never_falls, c.loop-signal.invariant.never_falls);
-      whole = λ after h. c.loop-signal.invariant.whole after
-          (let F : List ℕ → Type 0 = λ t. TookAll now after t in
-          subst F (sym line) (took_both now next after (codes " " ++ label) rest c.in_ok-write_both.ensures.whole h));
-      prefix = λ after h. c.loop-signal.invariant.prefix after
-          (let F : List ℕ → Type 0 = λ t. TookFirst now after t in
-          subst F (sym line) (then_first now next after (codes " " ++ label) rest c.in_ok-write_both.ensures.whole h));
+      laws = inv.laws;
+      wrote = subst W same (inv.laws.both start now next count faults more (Ok tt) (cycle_labels names (take k signals)) (codes " " ++ label) inv.wrote piece);
     }
 
-pub returns-in_err-write_both-clause-prefix : goal.returns-in_err-write_both-clause-prefix
-returns-in_err-write_both-clause-prefix g c =
+pub returns-in_err-write_pieces : goal.returns-in_err-write_pieces
+returns-in_err-write_pieces g c =
     let names = c.args.names.now in
     let signals = c.args.signals.now in
     let k = c.loop-signal.signal-index in
     let label : List ℕ = c.label_of.result.now in
-    let rest : List ℕ = cycle_labels names (drop (k + 1) signals) ++ codes "\n" in
-    let line : cycle_labels names (drop k signals) ++ codes "\n" ≡ (codes " " ++ label) ++ rest =
-    line-drop names signals k label c.loop-signal-test.true c.label_of.ensures in
+    let inv = c.loop-signal.invariant in
+    let start = g.E.Sink.taken c.args.notes.now in
+    let count = g.E.Sink.faults c.args.notes.now in
     let now = g.E.Sink.taken c.loop-signal.notes in
-    let next = g.E.Sink.taken c.write_both.new.notes in
-    let F : List ℕ → Type 0 = λ t. TookFirst now next t in
+    let faults = g.E.Sink.faults c.loop-signal.notes in
+    let next = g.E.Sink.taken c.write_pieces.new.sink in
+    let more = g.E.Sink.faults c.write_pieces.new.sink in
+    let fault = c.in_err-write_pieces.field-0.0 in
+    let F : List ℕ → Type 0 = λ p. Wrote {A = Unit {0}} {E = SinkFault} (Err fault) now next faults more (p ++ label) in
+    let W : List ℕ → Type 0 = λ t. Wrote {A = Unit {0}} {E = SinkFault} (Err fault) start next count more t in
+    let piece = subst F c.as_slice.ensures c.in_err-write_pieces.ensures.wrote in
+    let same : cycle_labels names (take k signals) ++ (codes " " ++ label) ≡ cycle_labels names (take (k + 1) signals) =
+    ap (λ (l : List ℕ). cycle_labels names (take k signals) ++ (codes " " ++ l)) c.label_of.ensures ∙ sym (labels-more names signals k c.loop-signal-test.true) in
+    let part = subst W same (inv.laws.both start now next count faults more (Err fault) (cycle_labels names (take k signals)) (codes " " ++ label) inv.wrote piece) in
     let p = err_from_is_err_and c.from_residual.result c.from_residual.ensures.1 in
-    rw p.1
-    (c.loop-signal.invariant.prefix next
-    (subst F (sym line) (first_more now next (codes " " ++ label) rest c.in_err-write_both.ensures.prefix)))
+    rw p.1 (subst W (sym (labels-rest names signals (k + 1))) (inv.laws.failed start next count more fault (cycle_labels names (take (k + 1) signals)) (cycle_labels names (drop (k + 1) signals)) part))
+
+pub returns : goal.returns
+returns g c =
+    let W : List ℕ → Type 0 = λ t. Wrote {A = Unit {0}} {E = SinkFault} (Ok tt) (g.E.Sink.taken c.args.notes.now) (g.E.Sink.taken c.loop-signal.notes) (g.E.Sink.faults c.args.notes.now) (g.E.Sink.faults c.loop-signal.notes) t in
+    subst W (labels-all c.args.names.now c.args.signals.now c.loop-signal.signal-index (omega arith)) c.loop-signal.invariant.wrote

@@ -1,115 +1,64 @@
-use Rattle.std.proofs.Common.{◌∙◌, inl, inr, ℕ, List, Option, Some, map, subst}
-use Rattle.std.specs.String.{string_bytes}
-use Rattle.pim_top.specs.Outcomes.{IsDone, IsExplained}
-use Rattle.pim_top.proofs.CompileEnds.{complete-compile, faulty-compile}
-use Rattle.pim_top.proofs.RunEnds.{complete-run, faulty-run, not-done-run, refused-run}
+use Rattle.std.proofs.Common.{◌≡◌, ◌∙◌, ap, sym, inl, inr}
+use Rattle.pim_top.proofs.Clauses.{call-accepted, call-apart, call-complete, call-decided, call-done, call-file, call-memory, call-nothing, call-plain, call-read, call-usage, call-write, done-only}
 use Rattle.pim_top.proofs.top.pim.Goals as goal
 
-pub returns-in-Ok-clause-bad_vector : goal.returns-in-Ok-clause-bad_vector
-returns-in-Ok-clause-bad_vector g c = λ text bytes before r told_text told_bytes took refused pc sc kc.
-    let words : List (List ℕ) = map string_bytes c.args.words.now in
-    let fn : Option (List ℕ) = g.P.Source.left c.obey.new.program in
-    let ln : Option (List ℕ) = g.S.Source.left c.obey.new.input in
-    let tn : Option (List ℕ) = g.K.Sink.taken c.obey.new.output in
-    let F : Option (List ℕ) → Type 0 = λ x. IsDone words x fn (g.S.Source.left c.args.input.now) ln (g.K.Sink.taken c.args.output.now) tn in
-    let L : Option (List ℕ) → Type 0 = λ x. IsDone words (Some text) fn x ln (g.K.Sink.taken c.args.output.now) tn in
-    let K : Option (List ℕ) → Type 0 = λ x. IsDone words (Some text) fn (Some bytes) ln x tn in
-    absurd (not-done-run words text bytes before fn ln tn r refused (subst K took (subst L told_bytes (subst F told_text c.in-Ok.ensures.done))))
+pub returns-clause-ends : goal.returns-clause-ends
+returns-clause-ends g c = record { answer = c.obey-answer.result; ends = c.status_of.ensures; obeyed = c.obey-answer.ensures.obeys; noted = c.tell.ensures.noted }
 
-pub returns-in-Err-clause-bad_vector : goal.returns-in-Err-clause-bad_vector
-returns-in-Err-clause-bad_vector g c = λ text bytes before other told_text told_bytes took refused pc sc kc.
-    let words : List (List ℕ) = map string_bytes c.args.words.now in
-    let fn : Option (List ℕ) = g.P.Source.left c.obey.new.program in
-    let ln : Option (List ℕ) = g.S.Source.left c.obey.new.input in
-    let tn : Option (List ℕ) = g.K.Sink.taken c.obey.new.output in
-    let r = c.in-Err.refusal in
-    let a = g.P.Source.faults c.args.program.now in
-    let b = g.P.Source.faults c.obey.new.program in
-    let s = g.S.Source.faults c.args.input.now in
-    let t = g.S.Source.faults c.obey.new.input in
-    let k = g.K.Sink.faults c.args.output.now in
-    let l = g.K.Sink.faults c.obey.new.output in
-    let F : Option (List ℕ) → Type 0 = λ x. IsExplained words x fn (g.S.Source.left c.args.input.now) ln (g.K.Sink.taken c.args.output.now) tn r in
-    let L : Option (List ℕ) → Type 0 = λ x. IsExplained words (Some text) fn x ln (g.K.Sink.taken c.args.output.now) tn r in
-    let K : Option (List ℕ) → Type 0 = λ x. IsExplained words (Some text) fn (Some bytes) ln x tn r in
-    let said = subst K took (subst L told_bytes (subst F told_text c.in-Err.ensures.explained)) in
-    let ends = refused-run words text bytes before fn ln tn a b s t k l r other refused said c.in-Err.ensures.counted c.in-Err.ensures.usage pc sc kc in
-    elim ends [ inl same ↦ inl (c.status.ensures ∙ same) | inr wanting ↦ inr (c.status.ensures ∙ wanting) ]
+pub returns-clause-done : goal.returns-clause-done
+returns-clause-done g c = λ e. call-done _ _ c.obey-answer.result c.obey-answer.ensures.obeys (sym c.status_of.ensures ∙ e)
 
-pub returns-in-Err-clause-run_complete : goal.returns-in-Err-clause-run_complete
-returns-in-Err-clause-run_complete g c = λ text bytes before told_text told_bytes took fine pc sc kc.
-    let words : List (List ℕ) = map string_bytes c.args.words.now in
-    let fn : Option (List ℕ) = g.P.Source.left c.obey.new.program in
-    let ln : Option (List ℕ) = g.S.Source.left c.obey.new.input in
-    let tn : Option (List ℕ) = g.K.Sink.taken c.obey.new.output in
-    let r = c.in-Err.refusal in
-    let a = g.P.Source.faults c.args.program.now in
-    let b = g.P.Source.faults c.obey.new.program in
-    let s = g.S.Source.faults c.args.input.now in
-    let t = g.S.Source.faults c.obey.new.input in
-    let k = g.K.Sink.faults c.args.output.now in
-    let l = g.K.Sink.faults c.obey.new.output in
-    let F : Option (List ℕ) → Type 0 = λ x. IsExplained words x fn (g.S.Source.left c.args.input.now) ln (g.K.Sink.taken c.args.output.now) tn r in
-    let L : Option (List ℕ) → Type 0 = λ x. IsExplained words (Some text) fn x ln (g.K.Sink.taken c.args.output.now) tn r in
-    let K : Option (List ℕ) → Type 0 = λ x. IsExplained words (Some text) fn (Some bytes) ln x tn r in
-    let said = subst K took (subst L told_bytes (subst F told_text c.in-Err.ensures.explained)) in
-    inr (c.status.ensures ∙ complete-run words text bytes before fn ln tn a b s t k l r fine said c.in-Err.ensures.counted c.in-Err.ensures.usage pc sc kc)
+pub returns-clause-silent : goal.returns-clause-silent
+returns-clause-silent g c = λ e. let same = done-only c.obey-answer.result _ c.tell.ensures.silent (sym c.status_of.ensures ∙ e) in ap (λ n. g.E.Sink.taken n) same
 
-pub returns-in-Err-clause-bad_program : goal.returns-in-Err-clause-bad_program
-returns-in-Err-clause-bad_program g c = λ text bytes before told_text told_bytes took faulty pc.
-    let words : List (List ℕ) = map string_bytes c.args.words.now in
-    let fn : Option (List ℕ) = g.P.Source.left c.obey.new.program in
-    let ln : Option (List ℕ) = g.S.Source.left c.obey.new.input in
-    let tn : Option (List ℕ) = g.K.Sink.taken c.obey.new.output in
-    let r = c.in-Err.refusal in
-    let a = g.P.Source.faults c.args.program.now in
-    let b = g.P.Source.faults c.obey.new.program in
-    let s = g.S.Source.faults c.args.input.now in
-    let t = g.S.Source.faults c.obey.new.input in
-    let k = g.K.Sink.faults c.args.output.now in
-    let l = g.K.Sink.faults c.obey.new.output in
-    let F : Option (List ℕ) → Type 0 = λ x. IsExplained words x fn (g.S.Source.left c.args.input.now) ln (g.K.Sink.taken c.args.output.now) tn r in
-    let L : Option (List ℕ) → Type 0 = λ x. IsExplained words (Some text) fn x ln (g.K.Sink.taken c.args.output.now) tn r in
-    let K : Option (List ℕ) → Type 0 = λ x. IsExplained words (Some text) fn (Some bytes) ln x tn r in
-    let said = subst K took (subst L told_bytes (subst F told_text c.in-Err.ensures.explained)) in
-    let ends = faulty-run words text bytes before fn ln tn a b s t k l r faulty said c.in-Err.ensures.counted c.in-Err.ensures.usage pc in
-    elim ends [ inl bad ↦ inl (c.status.ensures ∙ bad) | inr wanting ↦ inr (c.status.ensures ∙ wanting) ]
+pub returns-clause-usage : goal.returns-clause-usage
+returns-clause-usage g c = λ e. (call-usage _ _ c.obey-answer.result c.obey-answer.ensures.obeys (sym c.status_of.ensures ∙ e)).0
 
-pub returns-in-Err-clause-complete : goal.returns-in-Err-clause-complete
-returns-in-Err-clause-complete g c = λ bytes before told_bytes took fine sc kc.
-    let words : List (List ℕ) = map string_bytes c.args.words.now in
-    let fn : Option (List ℕ) = g.P.Source.left c.obey.new.program in
-    let ln : Option (List ℕ) = g.S.Source.left c.obey.new.input in
-    let tn : Option (List ℕ) = g.K.Sink.taken c.obey.new.output in
-    let r = c.in-Err.refusal in
-    let a = g.P.Source.faults c.args.program.now in
-    let b = g.P.Source.faults c.obey.new.program in
-    let s = g.S.Source.faults c.args.input.now in
-    let t = g.S.Source.faults c.obey.new.input in
-    let k = g.K.Sink.faults c.args.output.now in
-    let l = g.K.Sink.faults c.obey.new.output in
-    let fb : Option (List ℕ) = g.P.Source.left c.args.program.now in
-    let L : Option (List ℕ) → Type 0 = λ x. IsExplained words fb fn x ln (g.K.Sink.taken c.args.output.now) tn r in
-    let K : Option (List ℕ) → Type 0 = λ x. IsExplained words fb fn (Some bytes) ln x tn r in
-    let said = subst K took (subst L told_bytes c.in-Err.ensures.explained) in
-    inr (c.status.ensures ∙ complete-compile words bytes before fb fn ln tn a b s t k l r fine said c.in-Err.ensures.counted c.in-Err.ensures.usage sc kc)
+pub returns-clause-accepted : goal.returns-clause-accepted
+returns-clause-accepted g c = λ u m. call-accepted _ _ c.obey-answer.result c.obey-answer.ensures.obeys (λ e. u (c.status_of.ensures ∙ e)) (λ e. m (c.status_of.ensures ∙ e))
 
-pub returns-in-Err-clause-bad_input : goal.returns-in-Err-clause-bad_input
-returns-in-Err-clause-bad_input g c = λ bytes before told_bytes took faulty sc.
-    let words : List (List ℕ) = map string_bytes c.args.words.now in
-    let fn : Option (List ℕ) = g.P.Source.left c.obey.new.program in
-    let ln : Option (List ℕ) = g.S.Source.left c.obey.new.input in
-    let tn : Option (List ℕ) = g.K.Sink.taken c.obey.new.output in
-    let r = c.in-Err.refusal in
-    let a = g.P.Source.faults c.args.program.now in
-    let b = g.P.Source.faults c.obey.new.program in
-    let s = g.S.Source.faults c.args.input.now in
-    let t = g.S.Source.faults c.obey.new.input in
-    let k = g.K.Sink.faults c.args.output.now in
-    let l = g.K.Sink.faults c.obey.new.output in
-    let fb : Option (List ℕ) = g.P.Source.left c.args.program.now in
-    let L : Option (List ℕ) → Type 0 = λ x. IsExplained words fb fn x ln (g.K.Sink.taken c.args.output.now) tn r in
-    let K : Option (List ℕ) → Type 0 = λ x. IsExplained words fb fn (Some bytes) ln x tn r in
-    let said = subst K took (subst L told_bytes c.in-Err.ensures.explained) in
-    let ends = faulty-compile words bytes before fb fn ln tn a b s t k l r faulty said c.in-Err.ensures.counted c.in-Err.ensures.usage sc in
-    elim ends [ inl bad ↦ inl (c.status.ensures ∙ bad) | inr wanting ↦ inr (c.status.ensures ∙ wanting) ]
+pub returns-clause-said : goal.returns-clause-said
+returns-clause-said g c = λ command plain.
+    let w = c.obey-answer.ensures.said command plain in
+    (w.1, λ e. call-plain _ _ c.obey-answer.result c.obey-answer.ensures.obeys w.0 (sym c.status_of.ensures ∙ e))
+
+pub returns-clause-untouched : goal.returns-clause-untouched
+returns-clause-untouched g c = λ e. (call-usage _ _ c.obey-answer.result c.obey-answer.ensures.obeys (sym c.status_of.ensures ∙ e)).1
+
+pub returns-clause-apart : goal.returns-clause-apart
+returns-clause-apart g c = λ command said. call-apart _ _ c.obey-answer.result c.obey-answer.ensures.obeys command said
+
+pub returns-clause-read_fault : goal.returns-clause-read_fault
+returns-clause-read_fault g c = λ e. call-read _ _ c.obey-answer.result c.obey-answer.ensures.obeys (sym c.status_of.ensures ∙ e)
+
+pub returns-clause-write_fault : goal.returns-clause-write_fault
+returns-clause-write_fault g c = λ e. call-write _ _ c.obey-answer.result c.obey-answer.ensures.obeys (sym c.status_of.ensures ∙ e)
+
+pub returns-clause-file_decided : goal.returns-clause-file_decided
+returns-clause-file_decided g c = λ command file said accepted told calm.
+    elim (call-file _ _ c.obey-answer.result c.obey-answer.ensures.obeys command file said accepted told calm) [
+      | inl fine ↦ inl fine
+      | inr (inl d) ↦ inr (inl (record { refusal = d.refusal; decided = d.decided; ends = c.status_of.ensures ∙ d.ends }))
+      | inr (inr m) ↦ inr (inr (c.status_of.ensures ∙ m))
+    ]
+
+pub returns-clause-decided : goal.returns-clause-decided
+returns-clause-decided g c = λ command file bytes said accepted told_file told_bytes calm.
+    elim (call-decided _ _ c.obey-answer.result c.obey-answer.ensures.obeys command file bytes said accepted told_file told_bytes calm) [
+      | inl d ↦ inl (record { answer = d.answer; decided = d.decided; ends = c.status_of.ensures ∙ d.ends })
+      | inr m ↦ inr (c.status_of.ensures ∙ m)
+    ]
+
+pub returns-clause-complete : goal.returns-clause-complete
+returns-clause-complete g c = λ command file bytes said accepted told_file told_bytes calm fine.
+    elim (call-complete _ _ c.obey-answer.result c.obey-answer.ensures.obeys command file bytes said accepted told_file told_bytes calm fine) [
+      | inl d ↦ inl (c.status_of.ensures ∙ d)
+      | inr m ↦ inr (c.status_of.ensures ∙ m)
+    ]
+
+pub returns-clause-nothing : goal.returns-clause-nothing
+returns-clause-nothing g c = λ command said not d w.
+    call-nothing _ _ c.obey-answer.result c.obey-answer.ensures.obeys command said not (λ e. d (c.status_of.ensures ∙ e)) (λ e. w (c.status_of.ensures ∙ e))
+
+pub returns-clause-no_late_memory : goal.returns-clause-no_late_memory
+returns-clause-no_late_memory g c = λ command said rows e. call-memory _ _ c.obey-answer.result c.obey-answer.ensures.obeys command said rows (sym c.status_of.ensures ∙ e)

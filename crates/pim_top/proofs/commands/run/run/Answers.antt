@@ -1,7 +1,13 @@
-use Rattle.pim_top.specs.Runs.{IsIdle}
-use Rattle.pim_top.proofs.FileRefusals.{result-apart}
+use Rattle.std.proofs.Common.{inl, refl}
+use Rattle.std.proofs.lemmas.Result.{err_from_is_err_and}
 use Rattle.pim_top.proofs.commands.run.run.Goals as goal
 
-pub returns-in-Ok-clause-idle : goal.returns-in-Ok-clause-idle
-returns-in-Ok-clause-idle g c =
-    result-apart c.run.result (IsIdle (g.S.Source.left c.args.input.now) (g.S.Source.left c.run.new.input) (g.K.Sink.taken c.args.output.now) (g.K.Sink.taken c.run.new.output)) c.run.ensures.kinds
+pub returns-in_err-program : goal.returns-in_err-program
+returns-in_err-program g c =
+    let p = err_from_is_err_and c.from_residual.result c.from_residual.ensures.1 in
+    rw (p.1, p.2)
+    (inl (record {
+      input = record { same = refl; steady = refl };
+      output = record { same = refl; steady = refl };
+      why = c.in_err-program.ensures.refused c.args.fill;
+    }))

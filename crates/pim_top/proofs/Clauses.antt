@@ -1,0 +1,234 @@
+-- What follows of how a call ended, whatever command its words say.
+use Rattle.std.proofs.Common.{◌≡◌, ◌≢◌, ◌⊎◌, ℕ, ◌≤◌, Bool, true, false, List, [], ◌++◌, Option, Some, None, Result, Ok, Err, inl, inr, refl, sym, ap, ◌∙◌, subst}
+use Rattle.std.specs.Prelude.{OnOk}
+use Rattle.pim_io.specs.Outside.{Rose, Told}
+use Rattle.pim_io.specs.declared.limits.TheConstants.{MAX_INPUT, MAX_PROGRAM}
+use Rattle.pim_words.specs.Reading.{command_said, is_usage}
+use Rattle.pim_words.specs.declared.command.Command.{Command}
+use Rattle.pim_words.specs.declared.command.Command.TheVariants.{Compile, Run}
+use Rattle.pim_top.specs.Answers.{IsFine}
+use Rattle.pim_top.specs.Calls.{Ends, FileIsFine, HasWritten, IsCalm, IsDecided, IsDone, IsFileDecided, IsIdle, IsObeyed, IsRefused, Obeys}
+use Rattle.pim_top.specs.Decides.{Decides}
+use Rattle.pim_top.specs.Reads.{IsApart, OfBytes, Tells, executes_rows, reads, streams}
+use Rattle.pim_top.specs.Statuses.{answer_status, judgement_status, refusal_status}
+use Rattle.pim_top.specs.Streams.{IsUntouched, Seen}
+use Rattle.pim_top.specs.commands.Run.{run_of}
+use Rattle.pim_top.specs.declared.judgement.Judgement.{Judgement}
+use Rattle.pim_top.specs.declared.refusal.Origin.{Origin}
+use Rattle.pim_top.specs.declared.refusal.Origin.TheVariants as origin
+use Rattle.pim_top.specs.declared.refusal.Refusal.{Refusal}
+use Rattle.pim_top.specs.declared.refusal.Refusal.TheVariants as refusal
+use Rattle.pim_top.specs.declared.status.Status.{Status}
+use Rattle.pim_top.specs.declared.status.Status.TheVariants as status
+use Rattle.pim_top.proofs.CompileFine.{compile-fine}
+use Rattle.pim_top.proofs.RowsEnds.{FileRefusal, rows-decided, rows-done, rows-file, rows-memory, rows-read, rows-usage, rows-write}
+use Rattle.pim_top.proofs.RunFine.{run-fine}
+use Rattle.pim_top.proofs.StatusKinds.{refusal-done}
+use Rattle.pim_top.proofs.Told.{read-steady}
+use Rattle.pim_top.proofs.Wholes.{whole-decided, whole-done, whole-file, whole-nothing, whole-read, whole-usage, whole-write}
+
+-- ---- of one command
+abbrev Wrote : Command → Seen → Type 0
+Wrote c seen = OfBytes (reads c origin.Program) seen.program (λ file. OfBytes (reads c origin.Input) seen.input (λ input. Told seen.output.before seen.output.now (λ before after. HasWritten c file input before after)))
+
+-- no count rose
+abbrev Steady : Seen → Type 0
+Steady seen = (seen.program.faults_now ≡ seen.program.faults) × (seen.input.faults_now ≡ seen.input.faults) × (seen.output.faults_now ≡ seen.output.faults)
+
+ends-done : {Y : Type 0} (c : Command) (seen : Seen) (y : Y) → Ends c seen (Ok y) → Wrote c seen × Steady seen
+ends-done (Run fill) seen y h = (
+  rows-done (run_of fill) seen y (HasWritten (Run fill)) (λ file input before after text e fits d. record { text = text; took = e; given = inr (fits, d) }) h,
+  (h.loaded.read.steady, h.walk.input, h.walk.output),
+)
+ends-done c seen y h = (
+  whole-done c seen (HasWritten c) (λ file input before after text e fits d. record { text = text; took = e; given = inr (fits, d) }) h,
+  (read-steady (reads c origin.Program) seen.program h.file h.program_read, read-steady (reads c origin.Input) seen.input h.input h.input_read, h.took.steady),
+)
+
+ends-usage : (c : Command) (seen : Seen) (r : Refusal) → Ends {Y = Unit {0}} c seen (Err r) → refusal_status r ≡ status.Usage → ⊥
+ends-usage (Run fill) seen r h e = rows-usage (run_of fill) seen r h e
+ends-usage c seen r h e = whole-usage c seen r h e
+
+ends-read : (c : Command) (seen : Seen) (r : Refusal) → Ends {Y = Unit {0}} c seen (Err r) → refusal_status r ≡ status.ReadFault → Rose seen.program.faults seen.program.faults_now ⊎ Rose seen.input.faults seen.input.faults_now
+ends-read (Run fill) seen r h e = rows-read (run_of fill) seen r h e
+ends-read c seen r h e = whole-read c seen r h e
+
+ends-write : (c : Command) (seen : Seen) (r : Refusal) → Ends {Y = Unit {0}} c seen (Err r) → refusal_status r ≡ status.WriteFault → Rose seen.output.faults seen.output.faults_now
+ends-write (Run fill) seen r h e = rows-write (run_of fill) seen r h e
+ends-write c seen r h e = whole-write c seen r h e
+
+ends-nothing : (c : Command) (seen : Seen) (r : Refusal) → streams c ≡ false → Ends {Y = Unit {0}} c seen (Err r) → (refusal_status r ≡ status.WriteFault → ⊥) → IsUntouched seen.output
+ends-nothing (Run fill) seen r not h n = absurd (let z : ⊥ = cc in z)
+ends-nothing c seen r not h n = whole-nothing c seen r h n
+
+ends-memory : (c : Command) (seen : Seen) (r : Refusal) → executes_rows c ≡ true → Ends {Y = Unit {0}} c seen (Err r) → refusal_status r ≡ status.NoMemory → IsUntouched seen.input × IsUntouched seen.output
+ends-memory (Run fill) seen r rows h e = rows-memory (run_of fill) seen r h e
+ends-memory c seen r rows h e = absurd (let z : ⊥ = cc in z)
+
+-- the program file is fine, or decides by itself, or memory ran out
+abbrev FileSays : Command → List ℕ → Status → Type 0
+FileSays c file s = FileIsFine c file ⊎ (IsFileDecided c file s ⊎ (s ≡ status.NoMemory))
+
+ends-file : (c : Command) (seen : Seen) (file : List ℕ) (result : Result (Unit {0}) Refusal) → Tells (reads c origin.Program) seen.program file → (Rose seen.program.faults seen.program.faults_now → ⊥) → Ends c seen result → FileSays c file (answer_status result)
+ends-file (Run fill) seen file result t calm h = elim (rows-file (run_of fill) seen file result t calm h) [
+  | inl fine ↦ inl fine
+  | inr (inl (inl long)) ↦ inr (inl (record { refusal = refusal.TooLong origin.Program; decided = long.0; ends = long.1 }))
+  | inr (inl (inr judged)) ↦ inr (inl (record { refusal = refusal.Judged judged.0; decided = (judged.1, judged.2); ends = judged.3 }))
+  | inr (inr wanting) ↦ inr (inr wanting)
+]
+ends-file c seen file result t calm h = elim (whole-file c seen file result t calm h) [
+  | inl fine ↦ inl fine
+  | inr (inl decided) ↦ inr (inl (record { refusal = decided.0; decided = decided.1; ends = decided.2 }))
+  | inr (inr wanting) ↦ inr (inr wanting)
+]
+
+-- all bytes decide, or memory ran out
+abbrev Say : Command → List ℕ → List ℕ → Status → Type 0
+Say c file bytes s = IsDecided c file bytes s ⊎ (s ≡ status.NoMemory)
+
+ends-decided : (c : Command) (seen : Seen) (file bytes : List ℕ) (result : Result (Unit {0}) Refusal) → Tells (reads c origin.Program) seen.program file → Tells (reads c origin.Input) seen.input bytes → IsCalm seen → Ends c seen result → Say c file bytes (answer_status result)
+ends-decided (Run fill) seen file bytes result t u calm h = elim (rows-decided (run_of fill) seen file bytes result t u calm h) [
+  | inl (inl long) ↦ inl (record { answer = Err (refusal.TooLong origin.Program); decided = inl long.0; ends = long.1 })
+  | inl (inr judged) ↦ inl (record { answer = Err (refusal.Judged judged.0); decided = inl (judged.1, judged.2); ends = judged.3 })
+  | inr (inl late) ↦ inl (record { answer = late.0; decided = inr (late.1, late.2); ends = late.3 })
+  | inr (inr wanting) ↦ inr wanting
+]
+ends-decided c seen file bytes result t u calm h = elim (whole-decided c seen file bytes result t u calm h) [
+  | inl decided ↦ inl (record { answer = decided.0; decided = decided.1; ends = decided.2 })
+  | inr wanting ↦ inr wanting
+]
+
+-- bytes that are fine are done, or memory ran out
+fine-decided : (c : Command) (file bytes : List ℕ) (answer : Result (List ℕ) Refusal) → IsFine c file bytes → Decides c file bytes answer → (answer_status answer ≡ status.Done) ⊎ (answer_status answer ≡ status.NoMemory)
+fine-decided (Compile target level cells) file bytes answer fine h = compile-fine target level cells file bytes answer fine h
+fine-decided (Run fill) file bytes answer fine h = run-fine fill file bytes answer fine h
+
+-- ---- of a call
+-- the words say one command
+some_of : (c d : Command) → Some c ≡ Some d → c ≡ d
+some_of c d e = cc
+
+-- words that are refused say no command that was begun
+unsaid-status : (words : List (List ℕ)) (seen : Seen) (result : Result (Unit {0}) Refusal) → IsRefused words seen result → ((answer_status result ≡ status.Usage) × (is_usage words ≡ true)) ⊎ (answer_status result ≡ status.NoMemory)
+unsaid-status words seen (Ok y) h = absurd h.why
+unsaid-status words seen (Err refusal.Usage) h = inl (refl, h.why)
+unsaid-status words seen (Err refusal.NoMemory) h = inr refl
+unsaid-status words seen (Err (refusal.ReadFault o)) h = absurd h.why
+unsaid-status words seen (Err (refusal.TooLong o)) h = absurd h.why
+unsaid-status words seen (Err refusal.WriteFault) h = absurd h.why
+unsaid-status words seen (Err (refusal.Judged j)) h = absurd h.why
+
+-- a status that is neither is not that of refused words
+not-unsaid : (words : List (List ℕ)) (seen : Seen) (result : Result (Unit {0}) Refusal) (s : Status) → answer_status result ≡ s → s ≢ status.Usage → s ≢ status.NoMemory → IsRefused words seen result → ⊥
+not-unsaid words seen result s e u m h = elim (unsaid-status words seen result h) [ inl w ↦ u (sym e ∙ w.0) | inr w ↦ m (sym e ∙ w) ]
+
+abbrev Result_of : Type 0
+Result_of = Result (Unit {0}) Refusal
+
+obeyed-done : (words : List (List ℕ)) (seen : Seen) (result : Result_of) → answer_status result ≡ status.Done → IsObeyed words seen result → IsDone words seen
+obeyed-done words seen (Ok y) e h =
+    let w = ends-done h.command seen y h.ends in
+    record { command = h.command; said = h.said; wrote = w.0; program = w.1.0; input = w.1.1; output = w.1.2 }
+obeyed-done words seen (Err r) e h = absurd (refusal-done r e)
+
+pub call-done : (words : List (List ℕ)) (seen : Seen) (result : Result_of) → Obeys words seen result → answer_status result ≡ status.Done → IsDone words seen
+call-done words seen result h e = elim h [
+  | inl refused ↦ absurd (not-unsaid words seen result status.Done e (λ x. cc) (λ x. cc) refused)
+  | inr obeyed ↦ obeyed-done words seen result e obeyed
+]
+
+obeyed-usage : (words : List (List ℕ)) (seen : Seen) (result : Result_of) → answer_status result ≡ status.Usage → IsObeyed words seen result → ⊥
+obeyed-usage words seen (Ok y) e h = cc
+obeyed-usage words seen (Err r) e h = ends-usage h.command seen r h.ends e
+
+pub call-usage : (words : List (List ℕ)) (seen : Seen) (result : Result_of) → Obeys words seen result → answer_status result ≡ status.Usage → (is_usage words ≡ true) × IsIdle seen
+call-usage words seen result h e = elim h [
+  | inl refused ↦ elim (unsaid-status words seen result refused) [ inl w ↦ (w.1, refused.idle) | inr w ↦ absurd (let z : ⊥ = cc in z) ]
+  | inr obeyed ↦ absurd (obeyed-usage words seen result e obeyed)
+]
+
+pub call-accepted : (words : List (List ℕ)) (seen : Seen) (result : Result_of) → Obeys words seen result → answer_status result ≢ status.Usage → answer_status result ≢ status.NoMemory → is_usage words ≡ false
+call-accepted words seen result h u m = elim h [
+  | inl refused ↦ absurd (not-unsaid words seen result (answer_status result) refl u m refused)
+  | inr obeyed ↦ obeyed.accepted
+]
+
+pub call-plain : (words : List (List ℕ)) (seen : Seen) (result : Result_of) → Obeys words seen result → is_usage words ≡ false → answer_status result ≢ status.Usage
+call-plain words seen result h accepted = λ e. let w = (call-usage words seen result h e).0 in cc
+
+idle-apart : (c : Command) (seen : Seen) → IsIdle seen → IsApart c seen
+idle-apart c seen h origin.Program e = h.program
+idle-apart c seen h origin.Input e = h.input
+
+pub call-apart : (words : List (List ℕ)) (seen : Seen) (result : Result_of) → Obeys words seen result → (c : Command) → command_said words ≡ Some c → IsApart c seen
+call-apart words seen result h c said = elim h [
+  | inl refused ↦ idle-apart c seen refused.idle
+  | inr obeyed ↦ subst (λ (d : Command). IsApart d seen) (some_of obeyed.command c (sym obeyed.said ∙ said)) obeyed.apart
+]
+
+obeyed-read : (words : List (List ℕ)) (seen : Seen) (result : Result_of) → answer_status result ≡ status.ReadFault → IsObeyed words seen result → Rose seen.program.faults seen.program.faults_now ⊎ Rose seen.input.faults seen.input.faults_now
+obeyed-read words seen (Ok y) e h = absurd (let z : ⊥ = cc in z)
+obeyed-read words seen (Err r) e h = ends-read h.command seen r h.ends e
+
+pub call-read : (words : List (List ℕ)) (seen : Seen) (result : Result_of) → Obeys words seen result → answer_status result ≡ status.ReadFault → Rose seen.program.faults seen.program.faults_now ⊎ Rose seen.input.faults seen.input.faults_now
+call-read words seen result h e = elim h [
+  | inl refused ↦ absurd (not-unsaid words seen result status.ReadFault e (λ x. cc) (λ x. cc) refused)
+  | inr obeyed ↦ obeyed-read words seen result e obeyed
+]
+
+obeyed-write : (words : List (List ℕ)) (seen : Seen) (result : Result_of) → answer_status result ≡ status.WriteFault → IsObeyed words seen result → Rose seen.output.faults seen.output.faults_now
+obeyed-write words seen (Ok y) e h = absurd (let z : ⊥ = cc in z)
+obeyed-write words seen (Err r) e h = ends-write h.command seen r h.ends e
+
+pub call-write : (words : List (List ℕ)) (seen : Seen) (result : Result_of) → Obeys words seen result → answer_status result ≡ status.WriteFault → Rose seen.output.faults seen.output.faults_now
+call-write words seen result h e = elim h [
+  | inl refused ↦ absurd (not-unsaid words seen result status.WriteFault e (λ x. cc) (λ x. cc) refused)
+  | inr obeyed ↦ obeyed-write words seen result e obeyed
+]
+
+-- words that are accepted are refused for memory alone
+accepted-memory : (words : List (List ℕ)) (seen : Seen) (result : Result_of) → is_usage words ≡ false → IsRefused words seen result → answer_status result ≡ status.NoMemory
+accepted-memory words seen result accepted h = elim (unsaid-status words seen result h) [ inl w ↦ absurd (let u = w.1 in let z : ⊥ = cc in z) | inr w ↦ w ]
+
+pub call-file : (words : List (List ℕ)) (seen : Seen) (result : Result_of) → Obeys words seen result → (c : Command) (file : List ℕ) → command_said words ≡ Some c → is_usage words ≡ false → Tells (reads c origin.Program) seen.program file → (Rose seen.program.faults seen.program.faults_now → ⊥) → FileSays c file (answer_status result)
+call-file words seen result h c file said accepted t calm = elim h [
+  | inl refused ↦ inr (inr (accepted-memory words seen result accepted refused))
+  | inr obeyed ↦ ends-file c seen file result t calm (subst (λ (d : Command). Ends d seen result) (some_of obeyed.command c (sym obeyed.said ∙ said)) obeyed.ends)
+]
+
+pub call-decided : (words : List (List ℕ)) (seen : Seen) (result : Result_of) → Obeys words seen result → (c : Command) (file bytes : List ℕ) → command_said words ≡ Some c → is_usage words ≡ false → Tells (reads c origin.Program) seen.program file → Tells (reads c origin.Input) seen.input bytes → IsCalm seen → Say c file bytes (answer_status result)
+call-decided words seen result h c file bytes said accepted t u calm = elim h [
+  | inl refused ↦ inr (accepted-memory words seen result accepted refused)
+  | inr obeyed ↦ ends-decided c seen file bytes result t u calm (subst (λ (d : Command). Ends d seen result) (some_of obeyed.command c (sym obeyed.said ∙ said)) obeyed.ends)
+]
+
+pub call-complete : (words : List (List ℕ)) (seen : Seen) (result : Result_of) → Obeys words seen result → (c : Command) (file bytes : List ℕ) → command_said words ≡ Some c → is_usage words ≡ false → Tells (reads c origin.Program) seen.program file → Tells (reads c origin.Input) seen.input bytes → IsCalm seen → IsFine c file bytes → (answer_status result ≡ status.Done) ⊎ (answer_status result ≡ status.NoMemory)
+call-complete words seen result h c file bytes said accepted t u calm fine = elim (call-decided words seen result h c file bytes said accepted t u calm) [
+  | inl d ↦ elim (fine-decided c file bytes d.answer fine d.decided) [ inl done ↦ inl (d.ends ∙ done) | inr wanting ↦ inr (d.ends ∙ wanting) ]
+  | inr wanting ↦ inr wanting
+]
+
+obeyed-nothing : (words : List (List ℕ)) (seen : Seen) (result : Result_of) (c : Command) → streams c ≡ false → answer_status result ≢ status.Done → answer_status result ≢ status.WriteFault → Ends c seen result → IsUntouched seen.output
+obeyed-nothing words seen (Ok y) c not d w h = absurd (d refl)
+obeyed-nothing words seen (Err r) c not d w h = ends-nothing c seen r not h w
+
+pub call-nothing : (words : List (List ℕ)) (seen : Seen) (result : Result_of) → Obeys words seen result → (c : Command) → command_said words ≡ Some c → streams c ≡ false → answer_status result ≢ status.Done → answer_status result ≢ status.WriteFault → IsUntouched seen.output
+call-nothing words seen result h c said not d w = elim h [
+  | inl refused ↦ refused.idle.output
+  | inr obeyed ↦ obeyed-nothing words seen result c not d w (subst (λ (d : Command). Ends d seen result) (some_of obeyed.command c (sym obeyed.said ∙ said)) obeyed.ends)
+]
+
+obeyed-memory : (words : List (List ℕ)) (seen : Seen) (result : Result_of) (c : Command) → executes_rows c ≡ true → answer_status result ≡ status.NoMemory → Ends c seen result → IsUntouched seen.input × IsUntouched seen.output
+obeyed-memory words seen (Ok y) c rows e h = absurd (let z : ⊥ = cc in z)
+obeyed-memory words seen (Err r) c rows e h = ends-memory c seen r rows h e
+
+pub call-memory : (words : List (List ℕ)) (seen : Seen) (result : Result_of) → Obeys words seen result → (c : Command) → command_said words ≡ Some c → executes_rows c ≡ true → answer_status result ≡ status.NoMemory → IsUntouched seen.input × IsUntouched seen.output
+call-memory words seen result h c said rows e = elim h [
+  | inl refused ↦ (refused.idle.input, refused.idle.output)
+  | inr obeyed ↦ obeyed-memory words seen result c rows e (subst (λ (d : Command). Ends d seen result) (some_of obeyed.command c (sym obeyed.said ∙ said)) obeyed.ends)
+]
+
+-- what holds where all was done
+pub done-only : (result : Result_of) (P : Type 0) → OnOk result P → answer_status result ≡ status.Done → P
+done-only (Ok y) P h e = h
+done-only (Err r) P h e = absurd (refusal-done r e)

@@ -1,0 +1,157 @@
+-- Worked examples of a call's definitions, by computation: the note of each refusal with a place, and a run with a wrong line.
+use Rattle.std.proofs.Common.{◌≡◌, ℕ, List, [], ◌∷◌, ◌++◌, Option, Some, None, codes, refl}
+use Rattle.std.specs.Fmt.{digits}
+use Rattle.pim_aiger.specs.declared.fault.AigerFault.TheVariants as aiger
+use Rattle.pim_batch.specs.Runners.{Runner}
+use Rattle.pim_blif.specs.declared.fault.BlifFault.TheVariants as blif
+use Rattle.pim_compile.specs.declared.refusal.Refusal.TheVariants as compiler
+use Rattle.pim_file.specs.declared.fault.FileFault.TheVariants as file
+use Rattle.pim_io.specs.Bits.{line_of}
+use Rattle.pim_isa.specs.declared.invalid.Invalid.TheVariants as invalid
+use Rattle.pim_net.specs.declared.fault.NetFault.TheVariants as net
+use Rattle.pim_net.specs.declared.kind.Kind.TheVariants as kind
+use Rattle.pim_top.specs.Judged.{fitting_lines, input_refusal, judged_within}
+use Rattle.pim_top.specs.Notes.{refusal_note}
+use Rattle.pim_top.specs.Statuses.{refusal_status}
+use Rattle.pim_top.specs.Walks.{tiles_of}
+use Rattle.pim_top.specs.declared.judgement.Judgement.{Judgement}
+use Rattle.pim_top.specs.declared.judgement.Judgement.TheVariants as judgement
+use Rattle.pim_top.specs.declared.netlist.NetlistFault.TheVariants.{Aiger, Blif}
+use Rattle.pim_top.specs.declared.refusal.Origin.TheVariants as origin
+use Rattle.pim_top.specs.declared.refusal.Refusal.{Refusal}
+use Rattle.pim_top.specs.declared.refusal.Refusal.TheVariants as refusal
+use Rattle.pim_top.specs.declared.status.Status.TheVariants as status
+
+abbrev judged : Judgement → List ℕ
+judged j = refusal_note (refusal.Judged j)
+
+-- ---- notes
+program_unread : refusal_note (refusal.ReadFault origin.Program) ≡ codes "pim: read fault: program\n"
+program_unread = refl
+
+input_unread : refusal_note (refusal.ReadFault origin.Input) ≡ codes "pim: read fault: input\n"
+input_unread = refl
+
+syntax_note : judged (judgement.Netlist (Blif (blif.Syntax 3))) ≡ codes "pim: bad input: blif line 3: syntax\n"
+unfolding digits
+syntax_note = refl
+
+unsupported_note : judged (judgement.Netlist (Blif (blif.Unsupported 12 (codes ".latch")))) ≡ codes "pim: bad input: blif line 12: unsupported .latch\n"
+unfolding digits
+unsupported_note = refl
+
+width_note : judged (judgement.Netlist (Blif (blif.RowWidth 4))) ≡ codes "pim: bad input: blif line 4: row width\n"
+unfolding digits
+width_note = refl
+
+phase_note : judged (judgement.Netlist (Blif (blif.MixedPhase 5))) ≡ codes "pim: bad input: blif line 5: mixed phase\n"
+unfolding digits
+phase_note = refl
+
+twice_note : judged (judgement.Netlist (Blif (blif.TwiceInput 2))) ≡ codes "pim: bad input: blif line 2: input twice\n"
+unfolding digits
+twice_note = refl
+
+number_note : judged (judgement.Netlist (Aiger (aiger.Number 8))) ≡ codes "pim: bad input: aiger number at byte 8\n"
+unfolding digits
+number_note = refl
+
+literal_note : judged (judgement.Netlist (Aiger (aiger.Literal 16))) ≡ codes "pim: bad input: aiger literal at byte 16\n"
+unfolding digits
+literal_note = refl
+
+truncated_note : judged (judgement.Netlist (Aiger (aiger.Truncated 20))) ≡ codes "pim: bad input: aiger truncated at byte 20\n"
+unfolding digits
+truncated_note = refl
+
+delta_note : judged (judgement.Netlist (Aiger (aiger.Delta 16))) ≡ codes "pim: bad input: aiger delta at byte 16\n"
+unfolding digits
+delta_note = refl
+
+symbol_note : judged (judgement.Netlist (Aiger (aiger.Symbol 30))) ≡ codes "pim: bad input: aiger symbol at byte 30\n"
+unfolding digits
+symbol_note = refl
+
+driven_note : judged (judgement.Netlist (Blif (blif.Net (net.Twice 1) (codes "a" ∷ codes "b" ∷ [])))) ≡ codes "pim: bad input: driven twice b\n"
+driven_note = refl
+
+undriven_note : judged (judgement.Netlist (Aiger (aiger.Net (net.Undriven 0) (codes "v0" ∷ [])))) ≡ codes "pim: bad input: undriven v0\n"
+undriven_note = refl
+
+cycle_note : judged (judgement.Netlist (Blif (blif.Net (net.Cycle (1 ∷ 0 ∷ [])) (codes "a" ∷ codes "b" ∷ [])))) ≡ codes "pim: bad input: cycle b a\n"
+cycle_note = refl
+
+wanting_note : judged (judgement.Netlist (Blif (blif.Net net.NoMemory []))) ≡ codes "pim: no memory\n"
+wanting_note = refl
+
+signals_note : judged (judgement.Netlist (Blif (blif.TooLarge kind.Signals))) ≡ codes "pim: too large: signals\n"
+signals_note = refl
+
+cells_note : judged (judgement.Compile (compiler.TooFewCells 5)) ≡ codes "pim: too few cells: needed 5\n"
+unfolding digits
+cells_note = refl
+
+nodes_note : judged (judgement.Compile compiler.TooLarge) ≡ codes "pim: too large: nodes\n"
+nodes_note = refl
+
+line_note : judged (judgement.File (file.Line 7)) ≡ codes "pim: bad input: program line 7\n"
+unfolding digits
+line_note = refl
+
+port_note : judged (judgement.File (file.Invalid (invalid.Port 1))) ≡ codes "pim: bad input: program port 1\n"
+unfolding digits
+port_note = refl
+
+range_note : judged (judgement.File (file.Invalid (invalid.CellRange 0))) ≡ codes "pim: bad input: program instruction 0 cell range\n"
+unfolding digits
+range_note = refl
+
+target_note : judged (judgement.File (file.Invalid (invalid.TargetRead 2))) ≡ codes "pim: bad input: program instruction 2 reads its target\n"
+unfolding digits
+target_note = refl
+
+kind_note : judged (judgement.File (file.Invalid (invalid.WrongTarget 3))) ≡ codes "pim: bad input: program instruction 3 wrong target\n"
+unfolding digits
+kind_note = refl
+
+init_note : judged (judgement.File (file.Invalid (invalid.InitList 4))) ≡ codes "pim: bad input: program instruction 4 init list\n"
+unfolding digits
+init_note = refl
+
+vector_note : judged (judgement.Vector 2) ≡ codes "pim: bad input: vector line 2\n"
+unfolding digits
+vector_note = refl
+
+rows_note : judged judgement.TooManyLines ≡ codes "pim: too large: rows\n"
+rows_note = refl
+
+-- ---- statuses
+too_large : refusal_status (refusal.Judged (judgement.File file.TooLarge)) ≡ status.TooLarge
+too_large = refl
+
+too_few : refusal_status (refusal.Judged (judgement.Compile (compiler.TooFewCells 5))) ≡ status.TooFewCells
+too_few = refl
+
+-- ---- a run of three lines, of which the third is no vector
+abbrev three_lines : List ℕ
+three_lines = codes "01\n11\n1x\n10\n"
+
+-- two characters a line, a tile of one row, and each row gives its own bits
+abbrev echoing : Runner
+echoing = record { width = 2; tile = 1; result = λ bits. line_of bits ++ 10 ∷ [] }
+
+third_refused : input_refusal 2 three_lines ≡ Some (refusal.Judged (judgement.Vector 3))
+third_refused = refl
+
+two_fit : fitting_lines 2 three_lines ≡ codes "01" ∷ codes "11" ∷ []
+two_fit = refl
+
+two_written : tiles_of echoing (fitting_lines 2 three_lines) ≡ codes "01\n11\n"
+two_written = refl
+
+-- ---- bytes past a limit of six: a piece of them that may still become a line is not judged, and one that can't is
+short_piece : judged_within 6 3 (codes "01\n110\n") ≡ codes "01" ∷ []
+short_piece = refl
+
+long_piece : judged_within 6 1 (codes "01\n110\n") ≡ codes "01" ∷ codes "110" ∷ []
+long_piece = refl

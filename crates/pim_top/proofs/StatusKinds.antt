@@ -1,0 +1,79 @@
+-- Which statuses refusals have.
+use Rattle.std.proofs.Common.{◌≡◌, refl, subst}
+use Rattle.pim_aiger.specs.declared.fault.AigerFault.{AigerFault}
+use Rattle.pim_aiger.specs.declared.fault.AigerFault.TheVariants as aiger
+use Rattle.pim_blif.specs.declared.fault.BlifFault.{BlifFault}
+use Rattle.pim_blif.specs.declared.fault.BlifFault.TheVariants as blif
+use Rattle.pim_compile.specs.declared.refusal.Refusal.{Refusal as Compiler}
+use Rattle.pim_compile.specs.declared.refusal.Refusal.TheVariants as compiler
+use Rattle.pim_file.specs.declared.fault.FileFault.{FileFault}
+use Rattle.pim_file.specs.declared.fault.FileFault.TheVariants as file
+use Rattle.pim_net.specs.declared.fault.NetFault.{NetFault}
+use Rattle.pim_net.specs.declared.fault.NetFault.TheVariants as net
+use Rattle.pim_top.specs.Statuses.{aiger_status, blif_status, compiler_status, file_status, judgement_status, net_status, netlist_status, refusal_status}
+use Rattle.pim_top.specs.declared.judgement.Judgement.{Judgement}
+use Rattle.pim_top.specs.declared.judgement.Judgement.TheVariants as judgement
+use Rattle.pim_top.specs.declared.netlist.NetlistFault.{NetlistFault}
+use Rattle.pim_top.specs.declared.netlist.NetlistFault.TheVariants.{Aiger, Blif}
+use Rattle.pim_top.specs.declared.refusal.Refusal.{Refusal}
+use Rattle.pim_top.specs.declared.refusal.Refusal.TheVariants as refusal
+use Rattle.pim_top.specs.declared.status.Status.{Status}
+use Rattle.pim_top.specs.declared.status.Status.TheVariants as status
+
+-- a status of what bytes say
+abbrev pub IsOfBytes : Status → Type 0
+IsOfBytes status.Done = ⊥
+IsOfBytes status.BadInput = Unit {0}
+IsOfBytes status.Usage = ⊥
+IsOfBytes status.ReadFault = ⊥
+IsOfBytes status.WriteFault = ⊥
+IsOfBytes status.NoMemory = Unit {0}
+IsOfBytes status.TooFewCells = Unit {0}
+IsOfBytes status.TooLarge = Unit {0}
+
+net-kind : (f : NetFault) → IsOfBytes (net_status f)
+net-kind net.NoMemory = tt
+net-kind f = tt
+
+aiger-kind : (f : AigerFault) → IsOfBytes (aiger_status f)
+aiger-kind (aiger.Net f names) = net-kind f
+aiger-kind f = tt
+
+blif-kind : (f : BlifFault) → IsOfBytes (blif_status f)
+blif-kind (blif.Net f names) = net-kind f
+blif-kind f = tt
+
+netlist-kind : (f : NetlistFault) → IsOfBytes (netlist_status f)
+netlist-kind (Aiger f) = aiger-kind f
+netlist-kind (Blif f) = blif-kind f
+
+compiler-kind : (r : Compiler) → IsOfBytes (compiler_status r)
+compiler-kind (compiler.TooFewCells n) = tt
+compiler-kind compiler.TooLarge = tt
+compiler-kind compiler.NoMemory = tt
+
+file-kind : (f : FileFault) → IsOfBytes (file_status f)
+file-kind file.TooLarge = tt
+file-kind file.NoMemory = tt
+file-kind f = tt
+
+pub judgement-kind : (j : Judgement) → IsOfBytes (judgement_status j)
+judgement-kind (judgement.Netlist f) = netlist-kind f
+judgement-kind (judgement.Compile r) = compiler-kind r
+judgement-kind (judgement.File f) = file-kind f
+judgement-kind (judgement.Vector n) = tt
+judgement-kind judgement.TooManyLines = tt
+judgement-kind judgement.NoMemory = tt
+
+-- so they have none of the others
+pub judgement-other : (j : Judgement) (s : Status) → judgement_status j ≡ s → IsOfBytes s
+judgement-other j s e = subst IsOfBytes e (judgement-kind j)
+
+-- no refusal is done
+pub refusal-done : (r : Refusal) → refusal_status r ≡ status.Done → ⊥
+refusal-done refusal.Usage e = cc
+refusal-done refusal.NoMemory e = cc
+refusal-done (refusal.ReadFault o) e = cc
+refusal-done (refusal.TooLong o) e = cc
+refusal-done refusal.WriteFault e = cc
+refusal-done (refusal.Judged j) e = judgement-other j status.Done e

@@ -1,0 +1,119 @@
+//! Why bytes are refused, by what they say alone.
+ghost use Rattle.std.specs.Prelude.{◌≡◌};
+ghost use Rattle.pim_top.specs.Statuses.{aiger_status, blif_status, compiler_status, file_status, judgement_status, net_status, netlist_status};
+ghost use Rattle.pim_top.specs.declared.judgement.Judgement.TheVariants as judgements;
+
+use crate::Status;
+use crate::netlist::NetlistFault;
+use pim_aiger::AigerFault;
+use pim_blif::BlifFault;
+use pim_file::FileFault;
+use pim_io::NoMemory;
+use pim_net::NetFault;
+
+/// Why bytes are refused: the fault of the layer that refused them, as it is, and nothing of the outside.
+#[derive(Debug, Drop)]
+pub enum Judgement {
+    /// The bytes are no netlist.
+    Netlist(NetlistFault),
+    /// The netlist is not compiled.
+    Compile(pim_compile::Refusal),
+    /// The bytes are no program file.
+    File(FileFault),
+    /// The line of this number, from 1, is no vector of the program's inputs.
+    Vector(u32),
+    /// There are more lines of vectors than are read.
+    TooManyLines,
+    /// Memory ran out, which says nothing of the bytes.
+    NoMemory,
+}
+
+impl From<NoMemory> for Judgement {
+    ghost from_gives = { λ _ judgement. judgement ≡ judgements.NoMemory };
+
+    fn from(_error: NoMemory) -> Judgement {
+        Judgement::NoMemory
+    }
+}
+
+impl Judgement {
+    /// The status that a call with this judgement ends with.
+    pub fn status(&self) -> Status
+        ensures { result ≡ judgement_status self.now }
+    {
+        match self {
+            Judgement::Netlist(fault) => netlist_status(fault),
+            Judgement::Compile(refusal) => compiler_status(*refusal),
+            Judgement::File(fault) => file_status(*fault),
+            Judgement::Vector(_) => Status::BadInput,
+            Judgement::TooManyLines => Status::TooLarge,
+            Judgement::NoMemory => Status::NoMemory,
+        }
+    }
+}
+
+/// The status of a netlist's fault.
+fn netlist_status(fault: &NetlistFault) -> Status
+    ensures { result ≡ netlist_status fault.now }
+{
+    match fault {
+        NetlistFault::Aiger(fault) => aiger_status(fault),
+        NetlistFault::Blif(fault) => blif_status(fault),
+    }
+}
+
+/// The status of an AIGER file's fault.
+fn aiger_status(fault: &AigerFault) -> Status
+    ensures { result ≡ aiger_status fault.now }
+{
+    match fault {
+        AigerFault::Net(fault, _) => net_status(fault),
+        AigerFault::TooLarge(_) => Status::TooLarge,
+        AigerFault::NoMemory => Status::NoMemory,
+        _ => Status::BadInput,
+    }
+}
+
+/// The status of a BLIF file's fault.
+fn blif_status(fault: &BlifFault) -> Status
+    ensures { result ≡ blif_status fault.now }
+{
+    match fault {
+        BlifFault::Net(fault, _) => net_status(fault),
+        BlifFault::TooLarge(_) => Status::TooLarge,
+        BlifFault::NoMemory => Status::NoMemory,
+        _ => Status::BadInput,
+    }
+}
+
+/// The status of a netlist that is not well-formed.
+fn net_status(fault: &NetFault) -> Status
+    ensures { result ≡ net_status fault.now }
+{
+    match fault {
+        NetFault::NoMemory => Status::NoMemory,
+        _ => Status::BadInput,
+    }
+}
+
+/// The status of a refusal of the compiler.
+fn compiler_status(refusal: pim_compile::Refusal) -> Status
+    ensures { result ≡ compiler_status refusal }
+{
+    match refusal {
+        pim_compile::Refusal::TooFewCells { .. } => Status::TooFewCells,
+        pim_compile::Refusal::TooLarge => Status::TooLarge,
+        pim_compile::Refusal::NoMemory => Status::NoMemory,
+    }
+}
+
+/// The status of a program file's fault.
+fn file_status(fault: FileFault) -> Status
+    ensures { result ≡ file_status fault }
+{
+    match fault {
+        FileFault::TooLarge => Status::TooLarge,
+        FileFault::NoMemory => Status::NoMemory,
+        _ => Status::BadInput,
+    }
+}
