@@ -38,11 +38,11 @@ machine_of targets.Magic = isa.Magic
 
 -- the budget is enough for the netlist, and its flat graph is within the limit
 abbrev pub IsEnough : TargetWord → LevelWord → ℕ → NetView → Type 0
-IsEnough target level budget net = IsAccepted net budget
+IsEnough target level budget net = IsAccepted net (target_of target) (level_of level) budget
 
 -- the compiler refuses the netlist rightly so
 abbrev pub IsRefusedFor : TargetWord → LevelWord → ℕ → NetView → Refusal → Type 0
-IsRefusedFor target level budget net refusal = IsRefusal net budget refusal
+IsRefusedFor target level budget net refusal = IsRefusal net (target_of target) budget refusal
 
 -- the written bytes are the text of a program for the target that computes the netlist of the bytes, from every earlier content of
 -- the other cells; it names no cell beyond the budget and primes every NOR target; the budget is enough for the netlist
