@@ -1,3 +1,4 @@
+pub mod inner
 pub mod Computes
-pub mod Programs
+pub mod Networks
 pub mod Refusals

@@ -1,24 +1,40 @@
 -- Which netlists are refused, and for what budgets.
-use Rattle.std.specs.Prelude.{◌≡◌, ℕ, ◌+◌, ◌<◌, ◌≤◌, length}
+use Rattle.std.specs.Prelude.{◌≡◌, ℕ, ◌<◌, ◌≤◌}
+use Rattle.pim_aig.specs.Flat.{ands}
+use Rattle.pim_aig.specs.declared.graph.TheConstants.{MAX_ANDS}
 use Rattle.pim_net.specs.Netlist.{NetView}
-use Rattle.pim_aig.specs.Flat.{ands, flat}
-use Rattle.pim_nor.specs.Lowered.{nors}
-use Rattle.pim_nor.specs.declared.lowering.Width.TheVariants.{Two}
+use Rattle.pim_compile.specs.Networks.{need, coarse_need}
+use Rattle.pim_compile.specs.declared.compiling.Level.{Level}
+use Rattle.pim_compile.specs.declared.compiling.Level.TheVariants.{Zero}
+use Rattle.pim_compile.specs.declared.compiling.Target.{Target}
+use Rattle.pim_compile.specs.declared.compiling.Target.TheVariants.{Magic}
 use Rattle.pim_compile.specs.declared.refusal.Refusal.{Refusal}
 use Rattle.pim_compile.specs.declared.refusal.Refusal.TheVariants.{TooFewCells, TooLarge, NoMemory}
 
--- the cells that the wide schedule takes: one for each input and one for each gate of the flat graph's network
-abbrev pub wide_need : NetView → ℕ
-wide_need n = (flat n).inputs + length (nors (flat n) Two).gates
+-- what a budget that was enough says of the need: for MAGIC at level 0 it is at least that
+abbrev pub IsEnough : Target → Level → NetView → ℕ → Type 0
+IsEnough Magic Zero n budget = need n Magic ≤ budget
 
--- the flat graph has at most 1,048,576 AND nodes, and the budget is at least the need
-pub record IsAccepted (n : NetView) (budget : ℕ) : Type 0 where
-  pub few : ands n ≤ 1048576
-  pub enough : wide_need n ≤ budget
+-- the flat graph keeps the limit of AND nodes, and the budget is enough
+pub record IsAccepted (n : NetView) (target : Target) (level : Level) (budget : ℕ) : Type 0 where
+  pub few : ands n ≤ MAX_ANDS
+  pub enough : IsEnough target level n budget
 
--- too large comes only where the flat graph has more AND nodes than that; with as many at most, too few cells names the
--- number that is needed and comes only where the budget is below it
-abbrev pub IsRefusal : NetView → ℕ → Refusal → Type 0
-IsRefusal n budget (TooFewCells needed) = (ands n ≤ 1048576) × (needed ≡ wide_need n) × (budget < needed)
-IsRefusal n budget TooLarge = 1048576 < ands n
-IsRefusal n budget NoMemory = Unit {0}
+-- the flat graph keeps the limit of AND nodes, so many cells are needed, and the budget is below them
+pub record IsShort (n : NetView) (target : Target) (budget needed : ℕ) : Type 0 where
+  pub few : ands n ≤ MAX_ANDS
+  pub is : needed ≡ need n target
+  pub below : budget < needed
+
+-- too large comes only where the flat graph has more AND nodes than the limit, and too few cells only where the budget is
+-- below the need, which it names; want of memory says nothing
+abbrev pub IsRefusal : NetView → Target → ℕ → Refusal → Type 0
+IsRefusal n target budget (TooFewCells needed) = IsShort n target budget needed
+IsRefusal n target budget TooLarge = MAX_ANDS < ands n
+IsRefusal n target budget NoMemory = Unit {0}
+
+-- too few cells comes only where the budget is below the coarse need
+abbrev pub IsCoarse : NetView → Target → ℕ → Refusal → Type 0
+IsCoarse n target budget (TooFewCells needed) = budget < coarse_need n target
+IsCoarse n target budget TooLarge = Unit {0}
+IsCoarse n target budget NoMemory = Unit {0}

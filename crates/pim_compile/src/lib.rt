@@ -4,5 +4,5 @@
 mod compiling;
 mod refusal;
 
-pub use compiling::{Level, Target, compile};
+pub use compiling::{Level, Target, compile, need};
 pub use refusal::Refusal;

@@ -1,3 +1,4 @@
+use pim_io::NoMemory;
 use thiserror::Error;
 
 /// Why a netlist was not compiled.
@@ -6,10 +7,21 @@ pub enum Refusal {
     /// The budget is below the cells that the schedule needs.
     #[error("too few cells")]
     TooFewCells { needed: u32 },
-    /// The flat graph has more than 1,048,576 AND nodes.
+    /// The flat graph has more AND nodes than `pim_aig::MAX_ANDS`.
     #[error("too many nodes")]
     TooLarge,
-    /// Memory was wanting.
+    /// There was no memory.
     #[error("no memory")]
     NoMemory,
+}
+
+impl From<NoMemory> for Refusal {
+    ghost use Rattle.std.specs.Prelude.{◌≡◌};
+    ghost use Rattle.pim_compile.specs.declared.refusal.Refusal.TheVariants as refusal;
+
+    ghost from_gives = { λ _ e. e ≡ refusal.NoMemory };
+
+    fn from(_error: NoMemory) -> Refusal {
+        Refusal::NoMemory
+    }
 }

@@ -5,8 +5,7 @@ use Rattle.std.proofs.lemmas.Bool.{cases_eq, false≢true}
 use Rattle.pim_nor.specs.declared.network.Pin.{Pin}
 use Rattle.pim_nor.specs.declared.network.Pin.TheVariants.{Input, Gate as Place}
 use Rattle.pim_nor.specs.declared.network.Gate.{Gate}
-use Rattle.pim_nor.specs.Network.{pins}
-use Rattle.pim_nor.specs.inner.Pins.{IsInputOrFirst, AreInputsOrFirst}
+use Rattle.pim_nor.specs.Network.{pins, IsInputOrFirst, AreInputsOrFirst}
 use Rattle.pim_nor.specs.Reached.{mark, mark_all, reached}
 
 -- the pin is an input, or its gate is marked

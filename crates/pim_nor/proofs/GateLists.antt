@@ -6,8 +6,7 @@ use Rattle.std.proofs.lemmas.List.Elements.{All-push}
 use Rattle.pim_graph.specs.Graphs.{has}
 use Rattle.pim_nor.specs.declared.network.Pin.{Pin}
 use Rattle.pim_nor.specs.declared.network.Pin.TheVariants.{Input, Gate as Place}
-use Rattle.pim_nor.specs.Network.{IsOfFirst}
-use Rattle.pim_nor.specs.inner.Pins.{IsInputOrFirst, AreInputsOrFirst}
+use Rattle.pim_nor.specs.Network.{IsOfFirst, IsInputOrFirst, AreInputsOrFirst}
 use Rattle.pim_nor.specs.GateGraphs.{with_gate, gates_among}
 
 list_any-has : (gs : List ℕ) (x : ℕ) → list_any (λ y. eqb y x) gs ≡ has gs x

@@ -13,8 +13,7 @@ use Rattle.pim_nor.specs.declared.network.Gate.TheVariants.{Not}
 use Rattle.pim_nor.specs.Leaves.{leaves}
 use Rattle.pim_nor.specs.Lowered.{roots, marks_of, network_of, nors}
 use Rattle.pim_nor.specs.Named.{slots, source, literal_at, gate_of, gate_at}
-use Rattle.pim_nor.specs.Network.{pins}
-use Rattle.pim_nor.specs.inner.Pins.{AreInputsOrFirst}
+use Rattle.pim_nor.specs.Network.{pins, AreInputsOrFirst}
 use Rattle.pim_nor.specs.Reached.{numbered}
 use Rattle.pim_nor.specs.Values.{pin_value, none_true, out_values}
 use Rattle.pim_nor.proofs.Closure.{AreMarked, ReadBefore}

@@ -5,8 +5,7 @@ use Rattle.std.proofs.lemmas.List.{drop_more, take_all, get_or-drop}
 use Rattle.pim_nor.specs.declared.network.Pin.{Pin}
 use Rattle.pim_nor.specs.declared.network.Pin.TheVariants.{Input, Gate as Place}
 use Rattle.pim_nor.specs.declared.network.Gate.{Gate}
-use Rattle.pim_nor.specs.Network.{pins}
-use Rattle.pim_nor.specs.inner.Pins.{IsInputOrFirst, AreInputsOrFirst}
+use Rattle.pim_nor.specs.Network.{pins, IsInputOrFirst, AreInputsOrFirst}
 use Rattle.pim_nor.specs.Reached.{number, numbered, numbered_gate, kept}
 use Rattle.pim_nor.specs.Values.{pin_value, none_true, gate_value, gate_values_from}
 use Rattle.pim_nor.proofs.Closure.{IsMarked, AreMarked, ReadBefore}

@@ -9,8 +9,7 @@ use Rattle.pim_aig.specs.Literals.{complement}
 use Rattle.pim_nor.specs.Leaves.{leaves}
 use Rattle.pim_nor.specs.Lowered.{roots, marks_of, network_at, network_of, nors}
 use Rattle.pim_nor.specs.Named.{slots, source, literal_at, gate_of, gate_at, nor_of_leaves}
-use Rattle.pim_nor.specs.Network.{pins, IsOfFirst, AreOfFirst, ReadsFirst, is_nor, IsRead, IsNetwork}
-use Rattle.pim_nor.specs.inner.Pins.{AreInputsOrFirst}
+use Rattle.pim_nor.specs.Network.{pins, IsOfFirst, AreOfFirst, ReadsFirst, is_nor, IsRead, IsNetwork, AreInputsOrFirst}
 use Rattle.pim_nor.specs.inner.Plans.{PlanView}
 use Rattle.pim_nor.specs.Reached.{mark_all, numbered, numbered_gate, kept}
 use Rattle.pim_nor.specs.declared.lowering.Width.{Width}

@@ -43,6 +43,16 @@ abbrev pub AreOfFirst : ℕ → ℕ → List Pin → Type 0
 AreOfFirst inputs gates [] = Unit {0}
 AreOfFirst inputs gates (p ∷ ps) = IsOfFirst inputs gates p × AreOfFirst inputs gates ps
 
+-- the pin is an input or one of the first gates
+abbrev pub IsInputOrFirst : ℕ → Pin → Type 0
+IsInputOrFirst gates (Input j) = Unit {0}
+IsInputOrFirst gates (Place i) = i < gates
+
+-- each of the pins is an input or one of the first gates
+abbrev pub AreInputsOrFirst : ℕ → List Pin → Type 0
+AreInputsOrFirst gates [] = Unit {0}
+AreInputsOrFirst gates (p ∷ ps) = IsInputOrFirst gates p × AreInputsOrFirst gates ps
+
 -- the gate reads inputs and some of the first gates alone
 abbrev pub ReadsFirst : ℕ → ℕ → Gate → Type 0
 ReadsFirst inputs gates gate = AreOfFirst inputs gates (pins gate)

@@ -1,4 +1,3 @@
 -- Inner: definitions that private functions and representations cite, and no public contract.
-pub mod Pins
 pub mod Plans
 pub mod Reading

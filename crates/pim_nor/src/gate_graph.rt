@@ -1,8 +1,7 @@
 ghost use Rattle.std.specs.Prelude.{◌≡◌, ◌+◌, ◌<◌, ◌^◌, [], ℕ, All, length, map, slice_index_or, IfOk, OnOk};
 ghost use Rattle.pim_graph.specs.Graphs.{has};
 ghost use Rattle.pim_nor.specs.GateGraphs.{gates_among, gates_read, with_gate};
-ghost use Rattle.pim_nor.specs.Network.{pins};
-ghost use Rattle.pim_nor.specs.inner.Pins.{AreInputsOrFirst};
+ghost use Rattle.pim_nor.specs.Network.{pins, AreInputsOrFirst};
 ghost use Rattle.pim_nor.specs.declared.network.Gate.{Gate};
 
 use crate::{Gate, Pin};

@@ -3,8 +3,7 @@ ghost use Rattle.pim_aig.specs.Graph.{IsAig};
 ghost use Rattle.pim_nor.specs.Leaves.{leaves};
 ghost use Rattle.pim_nor.specs.Lowered.{marks_of, roots};
 ghost use Rattle.pim_nor.specs.Named.{gate_at, slots};
-ghost use Rattle.pim_nor.specs.Network.{pins};
-ghost use Rattle.pim_nor.specs.inner.Pins.{AreInputsOrFirst, IsInputOrFirst};
+ghost use Rattle.pim_nor.specs.Network.{pins, AreInputsOrFirst, IsInputOrFirst};
 ghost use Rattle.pim_nor.specs.Reached.{mark, mark_all};
 
 use crate::plan::Plan;

@@ -1,5 +1,4 @@
-pub mod Wide
-pub mod Means
 pub mod Following
 pub mod Batching
 pub mod Needs
+pub mod inner

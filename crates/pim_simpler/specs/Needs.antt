@@ -1,5 +1,5 @@
 -- How many cells a network needs, and what a refusal says.
-use Rattle.std.specs.Prelude.{◌≡◌, ℕ, ◌+◌, ◌<◌, List}
+use Rattle.std.specs.Prelude.{◌≡◌, ℕ, ◌+◌, ◌<◌, ◌≤◌, List}
 use Rattle.pim_graph.specs.Orders.{order}
 use Rattle.pim_graph.specs.Peaks.{peak}
 use Rattle.pim_nor.specs.GateGraphs.{graph_of}
@@ -19,3 +19,8 @@ needed_of n = n.inputs + peak (graph_of n) (order_of n)
 abbrev pub IsRefusalFor : ℕ → ℕ → Refusal → Type 0
 IsRefusalFor needed budget (TooFewCells told) = (told ≡ needed) × (budget < needed)
 IsRefusalFor needed budget NoMemory = Unit {0}
+
+-- a refusal for too few cells asks for so many at most
+abbrev pub AsksAtMost : ℕ → Refusal → Type 0
+AsksAtMost most (TooFewCells told) = told ≤ most
+AsksAtMost most NoMemory = Unit {0}

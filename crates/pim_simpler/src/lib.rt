@@ -1,9 +1,13 @@
 //! The MAGIC schedule: a NOR network becomes a program for one row. Inputs stand in the first cells and are never written;
-//! each gate takes a cell of its own after them, and one Init primes all of these at the start.
+//! gates are executed in the order of their cell usage, each into the least free cell, cells are taken again as soon as
+//! their value is no longer needed, and many of them are initialised at once.
 #![tactic(auto)]
 
+mod free_cells;
+mod ports;
 mod refusal;
-mod wide;
+mod scheduler;
+mod scheduling;
 
 pub use refusal::Refusal;
-pub use wide::schedule;
+pub use scheduling::{needed, schedule};

@@ -1,3 +1,4 @@
+use pim_io::NoMemory;
 use thiserror::Error;
 
 /// Why a network was not scheduled.
@@ -6,7 +7,18 @@ pub enum Refusal {
     /// The budget is below the cells that the schedule needs.
     #[error("too few cells")]
     TooFewCells { needed: u32 },
-    /// Memory was wanting.
+    /// There was no memory.
     #[error("no memory")]
     NoMemory,
+}
+
+impl From<NoMemory> for Refusal {
+    ghost use Rattle.std.specs.Prelude.{◌≡◌};
+    ghost use Rattle.pim_simpler.specs.declared.refusal.Refusal.TheVariants as refusal;
+
+    ghost from_gives = { λ _ e. e ≡ refusal.NoMemory };
+
+    fn from(_error: NoMemory) -> Refusal {
+        Refusal::NoMemory
+    }
 }

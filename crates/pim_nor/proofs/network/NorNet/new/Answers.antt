@@ -1,7 +1,7 @@
 use Rattle.std.proofs.Common.{List, length, subst, sym}
 use Rattle.pim_nor.specs.declared.network.Pin.{Pin}
 use Rattle.pim_nor.specs.declared.network.Gate.{Gate}
-use Rattle.pim_nor.specs.inner.Pins.{AreInputsOrFirst}
+use Rattle.pim_nor.specs.Network.{AreInputsOrFirst}
 use Rattle.pim_nor.proofs.GateLists.{AreInputsOrFirst-from}
 use Rattle.pim_nor.proofs.network.NorNet.new.Goals as goal
 

@@ -1,0 +1,68 @@
+-- Inner. What is known of a candidate: the program of one network, or why there is none.
+use Rattle.std.specs.Prelude.{◌≡◌, ℕ, ◌+◌, ◌<◌, ◌≤◌, List, Bool, length, map, min, Option, Some, None, IsSomeAnd, Result, Ok, Err}
+use Rattle.pim_aig.specs.Graph.{AigView}
+use Rattle.pim_aig.specs.Values.{aval}
+use Rattle.pim_isa.specs.PortLists.{labels_of}
+use Rattle.pim_isa.specs.Primed.{IsPrimed}
+use Rattle.pim_isa.specs.Programs.{PortsView, ProgramView}
+use Rattle.pim_isa.specs.Realizes.{Realizes}
+use Rattle.pim_isa.specs.Writes.{nor_places}
+use Rattle.pim_isa.specs.declared.target.Target.TheVariants.{Magic}
+use Rattle.pim_net.specs.Netlist.{NetView}
+use Rattle.pim_nor.specs.Lowered.{nors}
+use Rattle.pim_nor.specs.Network.{nor_count}
+use Rattle.pim_nor.specs.declared.lowering.Width.{Width}
+use Rattle.pim_nor.specs.declared.lowering.Width.TheVariants.{Two}
+use Rattle.pim_simpler.specs.Batching.{Batched}
+use Rattle.pim_simpler.specs.Needs.{needed_of}
+use Rattle.pim_simpler.specs.declared.refusal.Refusal.{Refusal}
+use Rattle.pim_simpler.specs.declared.refusal.Refusal.TheVariants.{TooFewCells, NoMemory}
+use Rattle.pim_compile.specs.Computes.{Computes}
+use Rattle.pim_compile.specs.Networks.{FollowsNetwork, FollowsSome, nors_of_two}
+use Rattle.pim_compile.specs.declared.compiling.Level.TheVariants.{Zero}
+use Rattle.pim_compile.specs.declared.refusal.Refusal.{Refusal as Refused}
+use Rattle.pim_compile.specs.declared.refusal.Refusal.TheVariants as refused
+
+-- the program of a graph's network of one width, for ports with these labels
+pub record IsCandidate (g : AigView) (ports : PortsView) (width : Width) (budget : ℕ) (p : ProgramView) : Type 0 where
+  pub realizes : Realizes p ports.inputs (λ bits. map (aval g bits) g.outputs)
+  pub labels : labels_of p.outputs ≡ ports.outputs
+  pub target : p.target ≡ Magic
+  pub cells : p.cells ≤ budget
+  pub primed : IsPrimed p.instrs
+  pub follows : FollowsNetwork p (nors g width)
+  pub batched : Batched p
+  pub few_nors : length (nor_places p.instrs) ≤ nor_count (nors g Two).gates
+  pub enough : needed_of (nors g width) ≤ budget
+
+-- the network of one width needs so many cells, which the budget is below, and no more than one for each input and NOR, and one
+pub record IsUnfit (g : AigView) (width : Width) (budget needed : ℕ) : Type 0 where
+  pub is : needed ≡ needed_of (nors g width)
+  pub below : budget < needed
+  pub most : needed ≤ g.inputs + nor_count (nors g width).gates + 1
+
+abbrev pub IsUnfitFor : AigView → Width → ℕ → Refusal → Type 0
+IsUnfitFor g width budget (TooFewCells needed) = IsUnfit g width budget needed
+IsUnfitFor g width budget NoMemory = Unit {0}
+
+-- the program that a netlist is compiled to at level 0
+pub record IsCompiled (n : NetView) (budget : ℕ) (p : ProgramView) : Type 0 where
+  pub computes : Computes p n
+  pub target : p.target ≡ Magic
+  pub cells : p.cells ≤ budget
+  pub primed : IsPrimed p.instrs
+  pub follows : FollowsSome Zero p n
+  pub batched : Batched p
+  pub few_nors : length (nor_places p.instrs) ≤ nors_of_two n
+
+-- how many cells a candidate lacks the room for, if it does
+abbrev pub asked : Result ProgramView Refusal → Option ℕ
+asked (Ok p) = None
+asked (Err (TooFewCells needed)) = Some needed
+asked (Err NoMemory) = None
+
+-- what a refusal says of two candidates: too few cells comes where both lack room, and names the lesser need
+abbrev pub IsShortOf : Result ProgramView Refusal → Result ProgramView Refusal → Refused → Type 0
+IsShortOf four two (refused.TooFewCells needed) = IsSomeAnd (asked four) (λ m. IsSomeAnd (asked two) (λ n. needed ≡ min m n))
+IsShortOf four two refused.TooLarge = ⊥
+IsShortOf four two refused.NoMemory = Unit {0}
