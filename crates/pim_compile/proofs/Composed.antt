@@ -1,5 +1,5 @@
 -- What the parts of a compilation say of one another gives what the whole says.
-use Rattle.std.proofs.Common.{◌≡◌, ◌⊎◌, ℕ, ◌+◌, ◌-◌, ◌<◌, ◌≤◌, min, Bool, List, length, map, Result, Ok, Err, inl, inr, sym, ◌∙◌, ap, subst, arith}
+use Rattle.std.proofs.Common.{◌≡◌, ◌⊎◌, ℕ, ◌+◌, ◌-◌, ◌≤◌, min, Bool, List, length, map, Result, Ok, Err, inl, inr, ◌∙◌, ap, subst, arith}
 use Rattle.std.specs.Prelude.{IfErr, IfOk, OnOk}
 use Rattle.pim_aig.specs.Flat.{ands, flat}
 use Rattle.pim_aig.specs.Graph.{AigView}
@@ -22,7 +22,6 @@ use Rattle.pim_simpler.specs.Batching.{Batched}
 use Rattle.pim_simpler.specs.Needs.{needed_of, AsksAtMost, IsRefusalFor}
 use Rattle.pim_simpler.specs.declared.refusal.Refusal.{Refusal}
 use Rattle.pim_simpler.specs.declared.refusal.Refusal.TheVariants.{TooFewCells, NoMemory}
-use Rattle.pim_compile.specs.Computes.{Computes}
 use Rattle.pim_compile.specs.Networks.{FollowsNetwork, FollowsSome, need, coarse_need}
 use Rattle.pim_compile.specs.Refusals.{IsAccepted, IsCoarse, IsRefusal}
 use Rattle.pim_compile.specs.inner.Candidates.{IsCandidate, IsCompiled, IsShortOf, IsUnfit, IsUnfitFor}

@@ -1,1 +1,2 @@
 pub mod Composed
+mod Examples

@@ -1,5 +1,5 @@
 -- Inner. What is known of a candidate: the program of one network, or why there is none.
-use Rattle.std.specs.Prelude.{◌≡◌, ℕ, ◌+◌, ◌<◌, ◌≤◌, List, Bool, length, map, min, Option, Some, None, IsSomeAnd, Result, Ok, Err}
+use Rattle.std.specs.Prelude.{◌≡◌, ℕ, ◌+◌, ◌<◌, ◌≤◌, length, map, min, Option, Some, None, IsSomeAnd, Result, Ok, Err}
 use Rattle.pim_aig.specs.Graph.{AigView}
 use Rattle.pim_aig.specs.Values.{aval}
 use Rattle.pim_isa.specs.PortLists.{labels_of}

@@ -1,4 +1,3 @@
-use Rattle.std.proofs.Common.{◌∙◌, sym, ap}
 use Rattle.pim_compile.proofs.Composed.{candidate_fits, candidate_unfit}
 use Rattle.pim_compile.proofs.compiling.candidate.Goals as goal
 

@@ -1,4 +1,3 @@
-use Rattle.std.proofs.Common.{length, ◌∙◌}
 use Rattle.pim_compile.proofs.Composed.{chosen-compiled, chosen-accepted, chosen-refused, chosen-coarse}
 use Rattle.pim_compile.proofs.compiling.magic.Goals as goal
 

@@ -1,5 +1,4 @@
-use Rattle.std.proofs.Common.{◌≤◌, ℕ, sym, ◌∙◌, arith}
-use Rattle.pim_compile.specs.Networks.{coarse_need}
+use Rattle.std.proofs.Common.{◌∙◌, arith}
 use Rattle.pim_compile.proofs.Composed.{need-targets, coarse-targets}
 use Rattle.pim_compile.proofs.compiling.need.Goals as goal
 
