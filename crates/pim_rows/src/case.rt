@@ -22,7 +22,7 @@ pub const XOR: &[u8] = b".model x\n.inputs a b\n.outputs f\n.names a b f\n10 1\n
 
 /// Its program, in eight cells.
 pub const XOR_PROGRAM: &[u8] =
-    b"pim 1\ntarget magic\ncells 8\ninput 0 a\ninput 1 b\noutput 7 f\ncycles 7\ninit 2 3 4 5 6 7\nnot 2 1\nnot 3 0\nnor 4 3 1\nnor 5 0 2\nnor 6 4 5\nnot 7 6\nend\n";
+    b"pim 1\ntarget magic\ncells 8\ninput 0 a\ninput 1 b\noutput 7 f\ncycles 7\ninit 2 3 4 5 6 7\nnot 2 0\nnor 3 2 1\nnot 4 1\nnor 5 0 4\nnor 6 3 5\nnot 7 6\nend\n";
 
 /// The words that compile to MAGIC with at most five cells.
 pub const FIVE: &[&str] = &["compile", "--target", "magic", "--cells", "5"];

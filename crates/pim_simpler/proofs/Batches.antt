@@ -1,10 +1,9 @@
 -- A run initialises all dead cells at once, and takes the least free cell.
-use Rattle.std.proofs.Common.{◌≡◌, ◌⊎◌, ℕ, zero, suc, ◌+◌, ◌<◌, ◌≤◌, Bool, true, false, ◌||◌, ◌&&◌, not, eqb, leb, ltb, cond, List, [], ◌∷◌, ◌++◌, length, take, drop, Option, Some, None, inl, inr, refl, sym, ap, ◌∙◌, subst, arith, append_assoc}
-use Rattle.std.specs.Prelude.{slice_get, IsTrue, MatchBool}
+use Rattle.std.proofs.Common.{◌≡◌, ℕ, zero, suc, ◌<◌, Bool, true, false, ◌||◌, ◌&&◌, not, eqb, cond, List, [], ◌∷◌, ◌++◌, take, drop, Some, refl, sym, ap, ◌∙◌, subst, append_assoc}
+use Rattle.std.specs.Prelude.{slice_get, IsTrue}
 use Rattle.std.specs.List.{list_any}
-use Rattle.std.proofs.lemmas.Bool.{cases_Bool, false≢true, true≢false, or_left, or_right, or_from, and_from, and_left, and_right, eq-eqb, ne_eqb, not-true, not-false, MatchBool-at_false}
+use Rattle.std.proofs.lemmas.Bool.{false≢true, or_left, or_from, and_from, and_left, and_right, eq-eqb, ne_eqb, not-true, not-false, MatchBool-at_false}
 use Rattle.std.proofs.lemmas.List.{append-nil}
-use Rattle.pim_graph.specs.Graphs.{has as among}
 use Rattle.pim_graph.specs.Peaks.{needed}
 use Rattle.pim_isa.specs.declared.instr.Ins.{Ins}
 use Rattle.pim_isa.specs.declared.instr.Instr.{Instr}
@@ -12,14 +11,14 @@ use Rattle.pim_isa.specs.declared.instr.Instr.TheVariants as instr
 use Rattle.pim_isa.specs.Laws.{WriteLaws}
 use Rattle.pim_isa.specs.Live.{is_live_in}
 use Rattle.pim_isa.specs.Primed.{last_write_is_init}
-use Rattle.pim_isa.specs.Touches.{operands, reads, names}
+use Rattle.pim_isa.specs.Touches.{operands}
 use Rattle.pim_isa.specs.Validity.{has}
 use Rattle.pim_nor.specs.GateGraphs.{graph_of}
 use Rattle.pim_nor.specs.Network.{NorView, is_nor, pins, AreOfFirst}
 use Rattle.pim_nor.specs.declared.network.Pin.{Pin}
 use Rattle.pim_nor.specs.declared.network.Pin.TheVariants.{Input, Gate as Place}
 use Rattle.pim_simpler.specs.Following.{gate_at, nors_of}
-use Rattle.pim_simpler.specs.inner.Slots.{Slot, primed, held, expired, outside, is_primed, is_expired, is_outside, refilled, anew, put, settled, AllHold, IsLeast, Works}
+use Rattle.pim_simpler.specs.inner.Slots.{Slot, primed, held, expired, outside, is_primed, is_expired, is_outside, refilled, put, settled, AllHold, IsLeast, Works}
 use Rattle.pim_simpler.specs.inner.Runs.{Run, IsNext}
 use Rattle.pim_simpler.specs.inner.Runs.Run.{done, refill, nor, one}
 use Rattle.pim_simpler.proofs.Placing.{any_from_has}

@@ -1,9 +1,9 @@
 -- What a run has emitted so far follows the gates that it has placed, and is primed.
-use Rattle.std.proofs.Common.{◌≡◌, ◌⊎◌, ℕ, zero, suc, ◌+◌, ◌<◌, ◌≤◌, Bool, true, false, ◌||◌, ◌&&◌, eqb, leb, ltb, cond, List, [], ◌∷◌, ◌++◌, length, take, get_or, Option, Some, None, inl, inr, refl, sym, ap, ◌∙◌, subst, arith, length-append, append_assoc}
+use Rattle.std.proofs.Common.{◌≡◌, ℕ, ◌+◌, ◌<◌, ◌≤◌, Bool, true, false, ◌||◌, ◌&&◌, eqb, leb, ltb, cond, List, [], ◌∷◌, ◌++◌, length, take, get_or, Some, inl, inr, refl, sym, ap, ◌∙◌, subst, arith, append_assoc}
 use Rattle.std.specs.Prelude.{slice_get, slice_index, IsSomeAnd, IsTrue, MatchBool}
-use Rattle.std.proofs.lemmas.Bool.{cases_Bool, cases_eq, or_from, eqb-true, eq-eqb, ne_eqb, MatchBool-at_false, false≢true}
+use Rattle.std.proofs.lemmas.Bool.{cases_Bool, or_from, eqb-true, eq-eqb, MatchBool-at_false, false≢true}
 use Rattle.std.proofs.lemmas.List.{append-nil, take_all, take-append-le, get_or_append_left, get_or_push, length_push}
-use Rattle.std.proofs.lemmas.Option.{slice_get_within, same_Some}
+use Rattle.std.proofs.lemmas.Option.{slice_get_within}
 use Rattle.pim_graph.specs.Graphs.{has as among}
 use Rattle.pim_graph.specs.Peaks.{needed}
 use Rattle.pim_isa.specs.declared.instr.Ins.{Ins}
@@ -19,8 +19,8 @@ use Rattle.pim_nor.specs.Network.{NorView, is_nor, pins}
 use Rattle.pim_nor.specs.declared.network.Pin.{Pin}
 use Rattle.pim_nor.specs.declared.network.Pin.TheVariants.{Input, Gate as Place}
 use Rattle.pim_simpler.specs.Following.{gate_at, nors_of, place_of, Stands, AllStand}
-use Rattle.pim_simpler.specs.inner.Slots.{Slot, primed, held, expired, outside, is_primed, is_expired, start, anew, refilled, put, kept, settled, Holds, AllHold, IsLeast}
-use Rattle.pim_simpler.specs.inner.Runs.{Run, IsNext}
+use Rattle.pim_simpler.specs.inner.Slots.{Slot, primed, held, expired, outside, is_expired, start, anew, refilled, put, kept, settled, Holds, AllHold}
+use Rattle.pim_simpler.specs.inner.Runs.{Run}
 use Rattle.pim_simpler.specs.inner.Runs.Run.{done, refill, nor, one}
 use Rattle.pim_simpler.proofs.Placing.{slice_get-push, MatchBool-map, IsSomeAnd-map, IsSomeAnd-from, nors-push_nor, nors-push_one, nors-fresh, Keeps, Keeps-append, place_of-push}
 

@@ -1,21 +1,17 @@
 -- With a cell for each gate one Init is enough.
-use Rattle.std.proofs.Common.{◌≡◌, ◌⊎◌, ℕ, zero, suc, ◌+◌, ◌-◌, ◌*◌, ◌<◌, ◌≤◌, Bool, true, false, ◌||◌, ◌&&◌, not, eqb, leb, ltb, cond, List, [], ◌∷◌, ◌++◌, length, inl, inr, refl, sym, ap, ◌∙◌, subst, arith}
+use Rattle.std.proofs.Common.{◌≡◌, ◌⊎◌, ℕ, zero, suc, ◌+◌, ◌-◌, ◌<◌, ◌≤◌, Bool, true, false, ◌||◌, ◌&&◌, eqb, leb, ltb, cond, List, [], ◌∷◌, length, inl, inr, refl, sym, ap, ◌∙◌, arith}
 use Rattle.std.specs.Prelude.{count_by}
-use Rattle.std.proofs.lemmas.Bool.{cases_Bool, false≢true, true≢false, or_cases, or_left, or_right, and_from, eqb-true, eqb-false, eq-eqb, lt-ltb, le-leb, false_from_ne_true}
+use Rattle.std.proofs.lemmas.Bool.{cases_Bool, false≢true, true≢false, or_cases, or_left, or_right, and_from, eqb-true, lt-ltb, le-leb}
 use Rattle.std.proofs.lemmas.List.Sums.{sum_by-cons}
-use Rattle.std.proofs.lemmas.List.{length_push}
 use Rattle.pim_graph.specs.Graphs.{has as among}
 use Rattle.pim_graph.specs.Peaks.{needed}
-use Rattle.pim_isa.specs.declared.instr.Ins.{Ins}
 use Rattle.pim_isa.specs.declared.instr.Instr.{Instr}
 use Rattle.pim_isa.specs.declared.instr.Instr.TheVariants as instr
 use Rattle.pim_isa.specs.Primed.{is_init}
-use Rattle.pim_isa.specs.Validity.{has}
 use Rattle.pim_nor.specs.GateGraphs.{graph_of}
-use Rattle.pim_nor.specs.Network.{NorView, is_nor}
-use Rattle.pim_simpler.specs.Following.{gate_at}
-use Rattle.pim_simpler.specs.inner.Slots.{Slot, primed, held, expired, outside, is_primed, start, anew, refilled, put, kept, settled, IsLeast}
-use Rattle.pim_simpler.specs.inner.Runs.{Run, IsNext}
+use Rattle.pim_nor.specs.Network.{NorView}
+use Rattle.pim_simpler.specs.inner.Slots.{Slot, primed, expired, outside, is_primed, start, anew, refilled, put, kept, settled}
+use Rattle.pim_simpler.specs.inner.Runs.{Run}
 use Rattle.pim_simpler.specs.inner.Runs.Run.{done, refill, nor, one}
 use Rattle.pim_simpler.proofs.Marks.{put-elsewhere}
 

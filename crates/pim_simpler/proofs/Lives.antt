@@ -1,20 +1,19 @@
 -- What a run has still to emit says which cells are live.
-use Rattle.std.proofs.Common.{◌≡◌, ◌⊎◌, ℕ, zero, suc, ◌+◌, ◌<◌, ◌≤◌, Bool, true, false, ◌||◌, ◌&&◌, not, eqb, cond, List, [], ◌∷◌, ◌++◌, length, inl, inr, refl, sym, ap, ◌∙◌, subst, arith}
-use Rattle.std.proofs.lemmas.Bool.{cases_Bool, false≢true, or_left, or_from, ne_eqb, false_from_ne_true}
+use Rattle.std.proofs.Common.{◌≡◌, ℕ, Bool, true, false, ◌||◌, eqb, cond, List, [], ◌∷◌, ◌++◌, inl, inr, sym, ap, ◌∙◌}
+use Rattle.std.proofs.lemmas.Bool.{cases_Bool, false≢true, or_from, ne_eqb, false_from_ne_true}
 use Rattle.std.proofs.lemmas.List.{append-nil}
 use Rattle.pim_graph.specs.Graphs.{has as among}
 use Rattle.pim_graph.specs.Peaks.{needed}
-use Rattle.pim_isa.specs.declared.instr.Ins.{Ins}
 use Rattle.pim_isa.specs.declared.instr.Instr.{Instr}
 use Rattle.pim_isa.specs.declared.instr.Instr.TheVariants as instr
 use Rattle.pim_isa.specs.Live.{is_live_in}
 use Rattle.pim_isa.specs.Touches.{operands, reads, names}
 use Rattle.pim_isa.specs.Validity.{has}
 use Rattle.pim_nor.specs.GateGraphs.{graph_of, gates_read}
-use Rattle.pim_nor.specs.Network.{NorView, is_nor, pins}
+use Rattle.pim_nor.specs.Network.{NorView, pins}
 use Rattle.pim_simpler.specs.Following.{gate_at}
-use Rattle.pim_simpler.specs.inner.Slots.{Slot, primed, held, is_primed, is_expired, refilled, anew, put, kept, settled, AllHold, IsLeast}
-use Rattle.pim_simpler.specs.inner.Runs.{Run, IsNext}
+use Rattle.pim_simpler.specs.inner.Slots.{Slot, primed, held, is_expired, anew, put, settled, AllHold}
+use Rattle.pim_simpler.specs.inner.Runs.{Run}
 use Rattle.pim_simpler.specs.inner.Runs.Run.{done, refill, nor, one}
 use Rattle.pim_simpler.proofs.Marks.{Apart, Apart-refill, Apart-put, kept-stays, put-elsewhere, held_cell, one_reads, needed-later}
 

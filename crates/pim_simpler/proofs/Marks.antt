@@ -1,19 +1,18 @@
 -- What the cells are, as a run goes on: each held gate is still needed and held once, and the same cells are work cells.
-use Rattle.std.proofs.Common.{◌≡◌, ◌≢◌, ◌⊎◌, ℕ, zero, suc, ◌+◌, ◌<◌, ◌≤◌, Bool, true, false, ◌||◌, ◌&&◌, not, eqb, leb, ltb, cond, List, [], ◌∷◌, ◌++◌, length, map, get_or, fold, inl, inr, refl, sym, ap, ◌∙◌, subst, arith}
+use Rattle.std.proofs.Common.{◌≡◌, ◌⊎◌, ℕ, Bool, true, false, ◌||◌, ◌&&◌, not, eqb, leb, ltb, cond, List, [], ◌∷◌, ◌++◌, fold, inl, inr, refl, sym, ap, ◌∙◌, subst}
 use Rattle.std.proofs.Math.ListN as lists
-use Rattle.std.proofs.lemmas.Bool.{cases_Bool, false≢true, true≢false, or_cases, or_parts, or_left, or_right, or_from, eqb-true, eq-eqb, eqb-false, ne_eqb}
+use Rattle.std.proofs.lemmas.Bool.{cases_Bool, false≢true, or_cases, or_left, or_right, eqb-true, eq-eqb}
 use Rattle.pim_graph.specs.Graphs.{has as among, kids_of}
 use Rattle.pim_graph.specs.Peaks.{needed, read_by}
-use Rattle.pim_isa.specs.declared.instr.Ins.{Ins}
 use Rattle.pim_isa.specs.Validity.{has}
 use Rattle.pim_nor.specs.GateGraphs.{graph_of, gates_read, gates_among, with_gate}
-use Rattle.pim_nor.specs.Network.{NorView, is_nor, pins}
+use Rattle.pim_nor.specs.Network.{NorView, is_nor}
 use Rattle.pim_nor.specs.declared.network.Gate.{Gate}
 use Rattle.pim_nor.specs.declared.network.Gate.TheVariants.{One, Not, Nor, Nor3, Nor4}
 use Rattle.pim_nor.specs.declared.network.Pin.{Pin}
 use Rattle.pim_nor.specs.declared.network.Pin.TheVariants.{Input, Gate as Place}
 use Rattle.pim_simpler.specs.Following.{gate_at}
-use Rattle.pim_simpler.specs.inner.Slots.{Slot, primed, held, expired, outside, is_primed, is_expired, is_outside, start, anew, refilled, put, kept, settled, Holds, AllHold, IsLeast, Works}
+use Rattle.pim_simpler.specs.inner.Slots.{Slot, primed, held, expired, outside, is_outside, start, anew, refilled, put, kept, settled, AllHold, Works}
 use Rattle.pim_simpler.proofs.Placing.{among-append, among-push}
 
 -- ---- back from what a cell is after a step to what it was

@@ -1,15 +1,14 @@
 -- What a whole draft of a run is: valid, and all that a schedule promises.
-use Rattle.std.proofs.Common.{◌≡◌, ◌≢◌, ◌⊎◌, ℕ, zero, suc, ◌+◌, ◌-◌, ◌*◌, ◌<◌, ◌≤◌, min, Bool, true, false, ◌||◌, ◌&&◌, not, eqb, leb, ltb, cond, List, [], ◌∷◌, ◌++◌, length, map, take, drop, get_or, Some, None, inl, inr, refl, sym, ap, ◌∙◌, subst, arith}
-use Rattle.std.specs.Prelude.{All, AllPairs, count_by, filter, slice_get, slice_index}
+use Rattle.std.proofs.Common.{◌≡◌, ◌≢◌, ℕ, zero, suc, ◌+◌, ◌-◌, ◌<◌, ◌≤◌, min, Bool, true, false, ◌&&◌, leb, ltb, List, [], ◌∷◌, ◌++◌, length, take, drop, get_or, Some, refl, sym, ap, ◌∙◌, subst, arith}
+use Rattle.std.specs.Prelude.{All, AllPairs, count_by, slice_get, slice_index}
 use Rattle.std.specs.List.{list_any}
-use Rattle.std.proofs.lemmas.Bool.{cases_Bool, false≢true, and_parts, and_left, and_right, and_from, lt-leb, le-leb, lt-ltb, ltb-true, not-false, or_left, or_right}
+use Rattle.std.proofs.lemmas.Bool.{and_parts, and_left, lt-leb, ltb-true, not-false}
 use Rattle.std.proofs.lemmas.List.{nil_from_length, length-map}
 use Rattle.pim_graph.specs.Graphs.{GraphView, has as among}
 use Rattle.pim_graph.specs.Orders.{IsReached, order as order_in}
 use Rattle.pim_graph.specs.Orders.IsReached.{as_root}
 use Rattle.pim_graph.specs.Peaks.{IsPlaced, needed}
 use Rattle.pim_isa.specs.declared.draft.TheConstants.{MAX_PORTS, MAX_INSTRS}
-use Rattle.pim_isa.specs.declared.instr.Ins.{Ins}
 use Rattle.pim_isa.specs.declared.instr.Instr.{Instr}
 use Rattle.pim_isa.specs.declared.instr.Instr.TheVariants as instr
 use Rattle.pim_isa.specs.declared.port.Port.{Port}
@@ -21,20 +20,17 @@ use Rattle.pim_isa.specs.Primed.{IsPrimed, is_init, last_write_is_init}
 use Rattle.pim_isa.specs.Programs.{ProgramView, PortsView}
 use Rattle.pim_isa.specs.Realizes.{Realizes}
 use Rattle.pim_isa.specs.Sound.{IsSound, IsValid, cells_of}
-use Rattle.pim_isa.specs.Touches.{writes}
-use Rattle.pim_isa.specs.Validity.{has}
-use Rattle.pim_isa.specs.Writes.{nor_places}
 use Rattle.pim_nor.specs.GateGraphs.{graph_of, gates_read}
 use Rattle.pim_nor.specs.Laws.{HasGateValues}
-use Rattle.pim_nor.specs.Network.{NorView, IsNetwork, is_nor, nor_count, IsOfFirst, AreOfFirst}
+use Rattle.pim_nor.specs.Network.{NorView, IsNetwork, nor_count, IsOfFirst, AreOfFirst}
 use Rattle.pim_nor.specs.Values.{out_values}
 use Rattle.pim_nor.specs.declared.network.Gate.{Gate}
 use Rattle.pim_nor.specs.declared.network.Pin.{Pin}
 use Rattle.pim_simpler.specs.Batching.{Batched, is_work}
 use Rattle.pim_simpler.specs.Following.{Follows, nors_of}
 use Rattle.pim_simpler.specs.Needs.{order_of}
-use Rattle.pim_simpler.specs.inner.Runs.{Run, Plan, Drafted}
-use Rattle.pim_simpler.specs.inner.Slots.{Slot, held, outside, is_outside, start, AllHold, Works}
+use Rattle.pim_simpler.specs.inner.Runs.{Plan, Drafted}
+use Rattle.pim_simpler.specs.inner.Slots.{Slot, held, is_outside, start, Works}
 use Rattle.pim_simpler.proofs.Batches.{Keeping, Good, GoodInit, GoodNor, good-run}
 use Rattle.pim_simpler.proofs.Counts.{nors_counted}
 use Rattle.pim_simpler.proofs.Stages.{All-among}

@@ -1,17 +1,15 @@
 -- What a schedule in the making keeps says what each cell is, at each step.
-use Rattle.std.proofs.Common.{◌≡◌, ◌⊎◌, ℕ, zero, suc, ◌+◌, ◌-◌, ◌<◌, ◌≤◌, Bool, true, false, ◌||◌, ◌&&◌, not, eqb, ltb, cond, List, [], ◌∷◌, ◌++◌, length, drop, get_or, set, fold, inl, inr, refl, sym, ap, ◌∙◌, subst, arith}
+use Rattle.std.proofs.Common.{◌≡◌, ◌⊎◌, ℕ, ◌<◌, Bool, true, false, ◌||◌, eqb, cond, List, [], ◌∷◌, ◌++◌, length, get_or, set, inl, inr, refl, sym, ap, ◌∙◌, subst, arith}
 use Rattle.std.specs.Prelude.{IsPermutation, IsSorted, slice_index}
-use Rattle.std.specs.List.{list_any}
 use Rattle.std.specs.Ordering.{nat_cmp}
-use Rattle.std.proofs.lemmas.Bool.{cases_Bool, cases_eq, false≢true, true≢false, or_cases, or_parts, or_left, or_right, or_from, eqb-true, eqb-false, eq-eqb, ne_eqb}
+use Rattle.std.proofs.lemmas.Bool.{cases_Bool, false≢true, or_cases, or_left, or_right, or_from, eqb-true, eqb-false, eq-eqb, ne_eqb}
 use Rattle.std.proofs.lemmas.List.{get_or-set_same, get_or-set_other}
 use Rattle.std.proofs.lemmas.List.Folds.{list_any-append}
 use Rattle.pim_graph.specs.Graphs.{has as among}
 use Rattle.pim_isa.specs.Validity.{has}
-use Rattle.pim_nor.specs.Network.{NorView, is_nor}
-use Rattle.pim_simpler.specs.Following.{gate_at}
-use Rattle.pim_simpler.specs.inner.Kept.{FreeView, freed, insert_rising}
-use Rattle.pim_simpler.specs.inner.Slots.{Slot, primed, held, expired, outside, is_primed, is_expired, anew, refilled, put, kept, IsLeast}
+use Rattle.pim_nor.specs.Network.{NorView}
+use Rattle.pim_simpler.specs.inner.Kept.{FreeView, freed}
+use Rattle.pim_simpler.specs.inner.Slots.{Slot, primed, held, expired, outside, is_primed, is_expired, anew, refilled, put, IsLeast}
 use Rattle.pim_simpler.proofs.Marks.{anew-held, put-there, put-elsewhere, put-held, held_same}
 use Rattle.pim_simpler.proofs.Placing.{among-append, among-push}
 use Rattle.pim_simpler.proofs.Rising.{Rises, Rises-rest, Rises-insert, Rises-sorted, rises-above, first_once, has-insert, Once, Once-push, Once-permuted, has-permuted}

@@ -1,15 +1,14 @@
 -- A run of the loop over an order, place by place.
-use Rattle.std.proofs.Common.{◌≡◌, ◌⊎◌, ℕ, zero, suc, ◌+◌, ◌-◌, ◌<◌, ◌≤◌, Bool, true, false, ◌||◌, ◌&&◌, not, eqb, leb, ltb, cond, List, [], ◌∷◌, ◌++◌, length, map, take, drop, get_or, set, fold, inl, inr, refl, sym, ap, ◌∙◌, subst, arith, append_assoc}
+use Rattle.std.proofs.Common.{◌≡◌, ◌⊎◌, ℕ, zero, suc, ◌+◌, ◌-◌, ◌<◌, ◌≤◌, Bool, true, false, ◌||◌, ◌&&◌, not, eqb, leb, ltb, cond, List, [], ◌∷◌, ◌++◌, length, map, take, drop, set, fold, inl, inr, refl, sym, ap, ◌∙◌, subst, arith, append_assoc}
 use mathlib.Core.Path.{fun_ext}
-use Rattle.std.specs.Prelude.{All, IsPermutation, IsSorted, count_by, filter, slice_index, MatchBool}
+use Rattle.std.specs.Prelude.{All, count_by, filter, slice_index}
 use Rattle.std.specs.List.{range_with_len}
-use Rattle.std.specs.Ordering.{nat_cmp}
-use Rattle.std.proofs.lemmas.Bool.{cases_Bool, cases_eq, cases_lt, cond_both, false≢true, true≢false, or_cases, or_parts, or_left, or_right, eq-eqb, ne_eqb, lt-ltb, le-leb, and_from, eqb-true, eqb-false, MatchBool-at_true, MatchBool-at_false}
+use Rattle.std.proofs.lemmas.Bool.{cases_Bool, cases_eq, cases_lt, cond_both, false≢true, or_cases, or_parts, or_left, or_right, eq-eqb, ne_eqb, lt-ltb, le-leb, and_from, eqb-true, eqb-false, MatchBool-at_true, MatchBool-at_false}
 use Rattle.std.proofs.lemmas.List.Elements.{All-nil, All-cons, All-head, All-tail, All-take}
 use Rattle.std.proofs.lemmas.List.{append-nil, length-map, drop_more, take_more, take_all, drop_all, get_or-set_same, get_or-set_other, length-set, nil_from_length, get_or_past}
 use Rattle.std.proofs.lemmas.List.Sums.{length-filter}
 use Rattle.pim_graph.specs.Graphs.{GraphView, has as among, kids_of}
-use Rattle.pim_graph.specs.Peaks.{IsPlaced, needed, read_by}
+use Rattle.pim_graph.specs.Peaks.{needed, read_by}
 use Rattle.pim_graph.specs.Readers.{CountsReads, occurrences, reads, still_needed}
 use Rattle.pim_isa.specs.PortLists.{input_ports, labels_of}
 use Rattle.pim_isa.specs.Programs.{ProgramView, PortsView}
@@ -19,7 +18,7 @@ use Rattle.pim_isa.specs.declared.instr.Instr.{Instr}
 use Rattle.pim_isa.specs.declared.instr.Instr.TheVariants as instr
 use Rattle.pim_isa.specs.Validity.{has, is_rising}
 use Rattle.pim_nor.specs.GateGraphs.{graph_of, gates_read, with_gate}
-use Rattle.pim_nor.specs.Network.{NorView, IsNetwork, is_nor, pins}
+use Rattle.pim_nor.specs.Network.{NorView, is_nor, pins}
 use Rattle.pim_nor.specs.declared.network.Pin.{Pin}
 use Rattle.pim_nor.specs.declared.network.Pin.TheVariants.{Input, Gate as Place}
 use Rattle.pim_nor.specs.declared.network.Gate.{Gate}

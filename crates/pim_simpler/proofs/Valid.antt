@@ -1,27 +1,26 @@
 -- The instructions of a run are valid, few, and write work cells alone.
-use Rattle.std.proofs.Common.{◌≡◌, ◌⊎◌, ℕ, zero, suc, ◌+◌, ◌*◌, ◌<◌, ◌≤◌, Bool, true, false, ◌||◌, not, eqb, cond, List, [], ◌∷◌, ◌++◌, length, Some, None, inl, inr, refl, sym, ap, ◌∙◌, subst, arith}
+use Rattle.std.proofs.Common.{◌≡◌, ℕ, zero, suc, ◌+◌, ◌*◌, ◌<◌, ◌≤◌, Bool, true, false, ◌||◌, not, eqb, List, [], ◌∷◌, length, Some, inl, inr, refl, sym, ap, ◌∙◌, subst, arith}
 use Rattle.std.specs.Prelude.{All, slice_get}
 use Rattle.std.proofs.lemmas.Bool.{cases_Bool, false≢true, true≢false, or_from, or_left, ne_eqb, eq-eqb, not-false}
 use Rattle.std.proofs.lemmas.List.{append-nil}
 use Rattle.std.proofs.lemmas.List.Elements.{All-nil, All-cons}
 use Rattle.pim_graph.specs.Peaks.{needed}
-use Rattle.pim_isa.specs.declared.instr.Ins.{Ins}
 use Rattle.pim_isa.specs.declared.instr.Instr.{Instr}
 use Rattle.pim_isa.specs.declared.instr.Instr.TheVariants as instr
 use Rattle.pim_isa.specs.declared.target.Target.TheVariants.{Magic}
 use Rattle.pim_isa.specs.Sound.{IsValid}
-use Rattle.pim_isa.specs.Touches.{operands, writes, names}
+use Rattle.pim_isa.specs.Touches.{operands, writes}
 use Rattle.pim_isa.specs.Validity.{has, is_rising}
 use Rattle.pim_nor.specs.GateGraphs.{graph_of}
-use Rattle.pim_nor.specs.Network.{NorView, is_nor, pins, AreOfFirst}
+use Rattle.pim_nor.specs.Network.{NorView, pins, AreOfFirst}
 use Rattle.pim_nor.specs.declared.network.Pin.{Pin}
 use Rattle.pim_nor.specs.declared.network.Pin.TheVariants.{Input, Gate as Place}
 use Rattle.pim_simpler.specs.Following.{gate_at}
-use Rattle.pim_simpler.specs.inner.Slots.{Slot, primed, held, expired, outside, is_primed, is_expired, is_outside, anew, refilled, put, settled, AllHold, IsLeast, Works}
-use Rattle.pim_simpler.specs.inner.Runs.{Run, IsNext}
+use Rattle.pim_simpler.specs.inner.Slots.{Slot, primed, held, expired, outside, is_primed, is_expired, is_outside, anew, AllHold, Works}
+use Rattle.pim_simpler.specs.inner.Runs.{Run}
 use Rattle.pim_simpler.specs.inner.Runs.Run.{done, refill, nor, one}
 use Rattle.pim_simpler.proofs.Batches.{target_apart}
-use Rattle.pim_simpler.proofs.Marks.{Works-refill, Works-put, work_of}
+use Rattle.pim_simpler.proofs.Marks.{Works-refill, Works-put}
 
 -- what holds of each number that stands in a list, holds of all of them
 All-from_has : (P : ℕ → Type 0) (cs : List ℕ) → ((c : ℕ) → has c cs ≡ true → P c) → All P cs

@@ -1,5 +1,5 @@
 -- What it is for a program to execute the gates of a network in an order, each from the cells that hold what it reads.
-use Rattle.std.specs.Prelude.{◌≡◌, ℕ, ◌==◌, Bool, false, if◌then◌else◌, List, [], ◌∷◌, filter, length, slice_index, slice_index_or, slice_get, take, Option, Some, None, IsSomeAnd, IsTrue, MatchBool}
+use Rattle.std.specs.Prelude.{◌≡◌, ℕ, ◌==◌, false, if◌then◌else◌, List, [], ◌∷◌, filter, length, slice_index, slice_index_or, slice_get, take, Option, Some, None, IsSomeAnd, IsTrue, MatchBool}
 use Rattle.pim_isa.specs.declared.instr.Ins.{Ins}
 use Rattle.pim_isa.specs.declared.instr.Instr.{Instr}
 use Rattle.pim_isa.specs.declared.instr.Instr.TheVariants as instr

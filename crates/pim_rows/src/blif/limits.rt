@@ -92,13 +92,13 @@ fn wide_cover(alloc: Global, columns: usize, rows: usize) -> Result<Vec<u8>, Fai
     Ok(bytes)
 }
 
-/// Its 4,096 nodes take a cell each, and all but the last one more; the input and its complement take one each.
+/// Its 4,096 nodes stand in a chain: the input, its complement, and a node and the complement of the one before it.
 #[test]
 fn a_pattern_has_any_length(rt: HostRuntime) -> Result<(), Fail> {
     let alloc = rt.alloc();
     let bytes = wide_cover(alloc, 4_097, 1)?;
     let ending = compile(alloc, "1", &bytes, 4_096)?;
-    let text = "too few cells: needed 8193";
+    let text = "too few cells: needed 4";
     refuses(&rt, alloc, &ending, Status::TooFewCells, text)
 }
 
@@ -110,14 +110,14 @@ fn one_node_too_many(rt: HostRuntime) -> Result<(), Fail> {
     refuses(&rt, alloc, &ending, Status::TooLarge, "too large: nodes")
 }
 
-/// A row takes 2,045 cells: its 1,023 nodes are wanted plain, and all of them but the last complemented too. The joins take
-/// 2,046, all of them both ways, and the input and its complement one each.
+/// Each row is a chain, which takes the input, its complement and two cells, and the join of the rows before it takes one
+/// more.
 #[test]
 fn just_few_enough_nodes(rt: HostRuntime) -> Result<(), Fail> {
     let alloc = rt.alloc();
     let bytes = wide_cover(alloc, 1_024, 1_024)?;
     let ending = compile(alloc, "1", &bytes, 1_048_576)?;
-    let text = "too few cells: needed 2096128";
+    let text = "too few cells: needed 5";
     refuses(&rt, alloc, &ending, Status::TooFewCells, text)
 }
 

@@ -1,4 +1,4 @@
-//! Small netlists and their programs, worked by hand: the inputs' cells come first, then a cell for each gate.
+//! Small netlists and their programs, worked by hand: with a cell for each gate, and with as few cells as they need.
 use super::{compile, compiles, is_wires, refuses};
 use crate::case::{XOR, XOR_PROGRAM};
 use pim_top::Status;
@@ -75,13 +75,24 @@ fn an_exclusive_or(rt: HostRuntime) -> Result<(), Fail> {
 }
 
 #[test]
+fn an_exclusive_or_in_five_cells(rt: HostRuntime) -> Result<(), Fail> {
+    compiles(
+        &rt,
+        rt.alloc(),
+        "5",
+        XOR,
+        b"pim 1\ntarget magic\ncells 5\ninput 0 a\ninput 1 b\noutput 2 f\ncycles 10\ninit 2 3 4\nnot 2 0\nnor 3 2 1\nnot 4 1\ninit 2\nnor 2 0 4\ninit 4\nnor 4 3 2\ninit 2 3\nnot 2 4\nend\n",
+    )
+}
+
+#[test]
 fn an_off_set(rt: HostRuntime) -> Result<(), Fail> {
     compiles(
         &rt,
         rt.alloc(),
-        "9",
+        "6",
         OFF_SET,
-        b"pim 1\ntarget magic\ncells 9\ninput 0 a\ninput 1 b\ninput 2 c\noutput 8 f\ncycles 7\ninit 3 4 5 6 7 8\nnot 3 2\nnot 4 1\nnot 5 0\nnor 6 5 2\nnor 7 4 3\nnor 8 6 7\nend\n",
+        b"pim 1\ntarget magic\ncells 6\ninput 0 a\ninput 1 b\ninput 2 c\noutput 3 f\ncycles 9\ninit 3 4 5\nnot 3 1\nnot 4 2\nnor 5 3 4\ninit 3 4\nnot 3 0\nnor 4 3 2\ninit 3\nnor 3 4 5\nend\n",
     )
 }
 
@@ -89,9 +100,9 @@ fn an_off_set(rt: HostRuntime) -> Result<(), Fail> {
 fn one_cell_too_few(rt: HostRuntime) -> Result<(), Fail> {
     let alloc = rt.alloc();
     for (cells, input, text) in [
-        ("7", XOR, "too few cells: needed 8"),
-        ("8", OFF_SET, "too few cells: needed 9"),
-        ("30", ADDER, "too few cells: needed 31"),
+        ("4", XOR, "too few cells: needed 5"),
+        ("5", OFF_SET, "too few cells: needed 6"),
+        ("8", ADDER, "too few cells: needed 9"),
     ] {
         let ending = compile(alloc, cells, input, 7)?;
         refuses(&rt, alloc, &ending, Status::TooFewCells, text)?;
@@ -104,9 +115,9 @@ fn a_full_adder(rt: HostRuntime) -> Result<(), Fail> {
     compiles(
         &rt,
         rt.alloc(),
-        "31",
+        "11",
         ADDER,
-        b"pim 1\ntarget magic\ncells 31\ninput 0 a\ninput 1 b\ninput 2 cin\noutput 23 s\noutput 30 co\ncycles 29\ninit 3 4 5 6 7 8 9 10 11 12 13 14 15 16 17 18 19 20 21 22 23 24 25 26 27 28 29 30\nnot 3 2\nnot 4 1\nnot 5 0\nnor 6 5 1\nnot 7 6\nnor 8 7 2\nnor 9 0 4\nnot 10 9\nnor 11 10 2\nnor 12 0 1\nnot 13 12\nnor 14 13 3\nnor 15 5 4\nnot 16 15\nnor 17 16 3\nnor 18 8 11\nnot 19 18\nnor 20 19 14\nnot 21 20\nnor 22 21 17\nnot 23 22\nnor 24 5 4\nnor 25 5 3\nnor 26 4 3\nnor 27 24 25\nnot 28 27\nnor 29 28 26\nnot 30 29\nend\n",
+        b"pim 1\ntarget magic\ncells 11\ninput 0 a\ninput 1 b\ninput 2 cin\noutput 6 s\noutput 4 co\ncycles 17\ninit 3 4 5 6 7 8 9 10\nnot 3 0\nnot 4 1\nnot 5 2\nnor 6 3 4 5\nnor 7 3 1 2\nnor 8 0 4 2\nnor 9 0 1 5\nnor 10 7 8 9 6\ninit 6 7 8 9\nnot 6 10\nnor 7 3 4\nnor 8 3 5\nnor 9 4 5\ninit 3 4 5 10\nnor 3 7 8 9\nnot 4 3\nend\n",
     )
 }
 

@@ -1,10 +1,9 @@
 -- Inner: what a schedule in the making keeps, and what each step of it changes.
-use Rattle.std.specs.Prelude.{◌≡◌, ℕ, ◌+◌, ◌-◌, ◌==◌, Bool, true, false, nat_lt, if◌then◌else◌, List, [], ◌∷◌, ◌++◌, drop, fold, length, slice_index, slice_set, IsPermutation, IsSorted, MatchBool}
+use Rattle.std.specs.Prelude.{◌≡◌, ℕ, ◌-◌, ◌==◌, Bool, true, false, nat_lt, if◌then◌else◌, List, [], ◌∷◌, ◌++◌, drop, fold, length, slice_index, slice_set, IsPermutation, IsSorted, MatchBool}
 use Rattle.std.specs.Ordering.{nat_cmp}
 use Rattle.pim_graph.specs.Graphs.{kids_of}
 use Rattle.pim_graph.specs.Readers.{still_needed}
 use Rattle.pim_isa.specs.Programs.{ProgramView}
-use Rattle.pim_isa.specs.declared.instr.Ins.{Ins}
 use Rattle.pim_isa.specs.declared.instr.Ins.TheVariants as ins
 use Rattle.pim_isa.specs.declared.instr.Instr.{Instr}
 use Rattle.pim_isa.specs.declared.instr.Instr.TheVariants as instr

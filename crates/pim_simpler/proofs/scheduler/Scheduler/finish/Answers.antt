@@ -1,8 +1,7 @@
-use Rattle.std.proofs.Common.{◌≡◌, ◌∙◌, ℕ, suc, ◌<◌, ◌++◌, List, [], ◌∷◌, length, get_or, refl, sym, ap, subst, arith}
+use Rattle.std.proofs.Common.{◌≡◌, ◌∙◌, ℕ, suc, ◌<◌, ◌++◌, List, [], ◌∷◌, length, get_or, sym, ap, subst, arith}
 use Rattle.pim_isa.specs.PortLists.{input_ports}
 use Rattle.pim_isa.specs.Programs.{ProgramView}
-use Rattle.pim_isa.specs.declared.port.Port.{Port}
-use Rattle.pim_nor.specs.Network.{NorView, IsNetwork, IsOfFirst, AreInputsOrFirst}
+use Rattle.pim_nor.specs.Network.{NorView, IsOfFirst, AreInputsOrFirst}
 use Rattle.pim_nor.specs.declared.network.Pin.{Pin}
 use Rattle.pim_nor.specs.declared.network.Pin.TheVariants.{Input, Gate as Place}
 use Rattle.pim_simpler.specs.inner.Kept.{ScheduleView, cell_of, output_ports}
