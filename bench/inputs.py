@@ -7,6 +7,8 @@ vectors.262144      that many lines of 32 characters 0 or 1
 vectors.1000000
 gates.aig           1,000,000 AND gates of 64 inputs, as binary AIGER
 gates.blif          the same gates as BLIF
+gates.100000.aig    the first 100,000 of them
+vectors.64          1,000 lines of 64 characters
 """
 import os
 import random
@@ -64,17 +66,17 @@ def write_program(path, size):
         file.write("end\n")
 
 
-def write_vectors(path, count):
+def write_vectors(path, count, width=PORTS):
     rng = random.Random(2)
     with open(path, "w") as file:
         for _ in range(count):
-            file.write(f"{rng.getrandbits(PORTS):0{PORTS}b}\n")
+            file.write(f"{rng.getrandbits(width):0{width}b}\n")
 
 
-def gates():
+def gates(count):
     """For each gate the two literals that it reads, the greater one first: a near gate or input, and any earlier one."""
     rng = random.Random(3)
-    for k in range(GATES):
+    for k in range(count):
         below = GATE_INPUTS + k
         near = below - rng.randrange(min(below, 4096))
         other = 1 + int(rng.random() * below)
@@ -93,16 +95,16 @@ def code(number):
     return digits
 
 
-def outputs():
-    return range(GATE_INPUTS + GATES - 63, GATE_INPUTS + GATES + 1)
+def outputs(count):
+    return range(GATE_INPUTS + count - 63, GATE_INPUTS + count + 1)
 
 
-def write_aiger(path):
+def write_aiger(path, count):
     with open(path, "wb") as file:
-        file.write(f"aig {GATE_INPUTS + GATES} {GATE_INPUTS} 0 {len(outputs())} {GATES}\n".encode())
-        for variable in outputs():
+        file.write(f"aig {GATE_INPUTS + count} {GATE_INPUTS} 0 {len(outputs(count))} {count}\n".encode())
+        for variable in outputs(count):
             file.write(f"{2 * variable}\n".encode())
-        for k, (a, b) in enumerate(gates()):
+        for k, (a, b) in enumerate(gates(count)):
             a, b = max(a, b), min(a, b)
             file.write(code(2 * (GATE_INPUTS + k + 1) - a) + code(a - b))
 
@@ -110,8 +112,8 @@ def write_aiger(path):
 def write_blif(path):
     with open(path, "w") as file:
         file.write(".model gates\n.inputs " + " ".join(f"n{k + 1}" for k in range(GATE_INPUTS)) + "\n")
-        file.write(".outputs " + " ".join(f"n{v}" for v in outputs()) + "\n")
-        for k, (a, b) in enumerate(gates()):
+        file.write(".outputs " + " ".join(f"n{v}" for v in outputs(GATES)) + "\n")
+        for k, (a, b) in enumerate(gates(GATES)):
             a, b = max(a, b), min(a, b)
             file.write(f".names n{a >> 1} n{b >> 1} n{GATE_INPUTS + k + 1}\n{1 - (a & 1)}{1 - (b & 1)} 1\n")
         file.write(".end\n")
@@ -125,7 +127,9 @@ def main():
         "long.pim": lambda path: write_program(path, LONG),
         "vectors.262144": lambda path: write_vectors(path, 262_144),
         "vectors.1000000": lambda path: write_vectors(path, 1_000_000),
-        "gates.aig": write_aiger,
+        "vectors.64": lambda path: write_vectors(path, 1_000, GATE_INPUTS),
+        "gates.aig": lambda path: write_aiger(path, GATES),
+        "gates.100000.aig": lambda path: write_aiger(path, 100_000),
         "gates.blif": write_blif,
     }
     for name, write in files.items():

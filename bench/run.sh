@@ -39,6 +39,7 @@ ratio() {
 python3 inputs.py out
 clang -O3 -o out/lanes64 lanes.c
 clang -O3 -DWORDS=1 -o out/lanes1 lanes.c
+clang++ -O3 -std=c++17 -o out/schedule schedule.cpp
 rm -f out/*.times
 
 for _ in $(seq "$repetitions"); do
@@ -54,12 +55,27 @@ for _ in $(seq "$repetitions"); do
   cmp out/long.results /dev/null
   timed aiger 6 out/gates.aig /dev/null "$bin" compile --target magic --cells 1
   timed blif 6 out/gates.blif /dev/null "$bin" compile --target magic --cells 1
+  timed compile 0 out/gates.aig out/compiled.pim "$bin" compile --target magic --cells 1048576
+  timed schedule 0 out/gates.aig out/scheduled.pim out/schedule 1048576
+  timed compile-small 0 out/gates.100000.aig out/compiled-small.pim "$bin" compile --target magic --cells 1048576
+  timed schedule-small 0 out/gates.100000.aig out/scheduled-small.pim out/schedule 1048576
+done
+
+# Both programs compute the same.
+for size in '' -small; do
+  "$bin" run "out/compiled$size.pim" <out/vectors.64 >out/compiled.results
+  "$bin" run "out/scheduled$size.pim" <out/vectors.64 >out/scheduled.results
+  cmp out/compiled.results out/scheduled.results
 done
 
 echo "$(nproc) processors, $(sed -n 's/^model name.*: //p' /proc/cpuinfo | head -n 1); $(clang --version | head -n 1); least of $repetitions"
 printf '%-16s %9s %9s %9s\n' '' 'clock s' 'cpu s' 'MB'
-for name in run lanes64 lanes1 run-long lanes64-long long aiger blif; do shown "$name"; done
+for name in run lanes64 lanes1 run-long lanes64-long long aiger blif \
+  compile schedule compile-small schedule-small; do shown "$name"; done
 printf '%-32s %9s %9s\n' '' 'clock' 'cpu'
 ratio run lanes64
 ratio run lanes1
 ratio run-long lanes64-long
+ratio compile schedule
+ratio compile-small schedule-small
+ratio compile compile-small

@@ -22,22 +22,27 @@ def labels(program, kind):
 
 
 def computes(pim, folder, name, outputs_of):
-    """The example's program gives on every vector what the rule gives, from zeros and from ones in the other cells.
+    """The example's programs, in as few cells as it needs and in many, give on every vector what the rule gives.
 
     The rule takes the inputs' bits by their labels, and gives the outputs' by theirs.
     """
-    program = compiled(pim, name, "1000")
-    (folder / "program.pim").write_bytes(program)
-    inputs, outputs = labels(program, "input"), labels(program, "output")
-    vectors, results = [], []
-    for number in range(2 ** len(inputs)):
-        vector = format(number, f"0{len(inputs)}b")
-        bits = outputs_of({label: int(bit) for label, bit in zip(inputs, vector)})
-        vectors.append(vector + "\n")
-        results.append("".join(str(int(bits[label])) for label in outputs) + "\n")
-    for fill in "zeros", "ones":
+    for cells, fill in (needed()[name], "zeros"), (needed()[name], "ones"), ("1000", "ones"):
+        program = compiled(pim, name, cells)
+        (folder / "program.pim").write_bytes(program)
+        inputs, outputs = labels(program, "input"), labels(program, "output")
+        vectors, results = [], []
+        for number in range(2 ** len(inputs)):
+            vector = format(number, f"0{len(inputs)}b")
+            bits = outputs_of({label: int(bit) for label, bit in zip(inputs, vector)})
+            vectors.append(vector + "\n")
+            results.append("".join(str(int(bits[label])) for label in outputs) + "\n")
         answer = pim("run", folder / "program.pim", "--fill", fill, stdin="".join(vectors).encode())
         gives(answer, "".join(results).encode())
+
+
+def needed():
+    """The cells that each netlist of the page's table needs, by its file's name."""
+    return dict(re.findall(r"^\| `(.*?)` \|.*\| (\d+) \|$", README, re.MULTILINE))
 
 
 def number(bits, name):
@@ -89,9 +94,8 @@ def test_the_gray_code(pim, folder):
 
 def test_the_cells_that_the_examples_need(pim, folder):
     """Each netlist of the table compiles in as many cells as the table says, and in one less it does not."""
-    rows = re.findall(r"^\| `(.*?)` \|.*\| (\d+) \|$", README, re.MULTILINE)
-    equal("the netlists of the table", {name for name, _ in rows}, netlists())
-    for name, cells in rows:
+    equal("the netlists of the table", set(needed()), netlists())
+    for name, cells in needed().items():
         program = compiled(pim, name, cells)
         equal(f"the cells of {name}", re.search(rb"^cells (\d+)$", program, re.MULTILINE)[1].decode(), cells)
         answer = pim("compile", "--target", "magic", "--cells", str(int(cells) - 1), stdin=(EXAMPLES / name).read_bytes())

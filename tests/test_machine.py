@@ -42,22 +42,38 @@ def test_programs_by_chance(pim, folder):
             gives(answer, "".join(result + "\n" for result in results).encode())
 
 
+def budgets(pim, netlist):
+    """Numbers of cells from the least that a netlist needs on: a dozen, and then as many as it may take."""
+    note = pim("compile", "--target", "magic", "--cells", "0", stdin=netlist).notes
+    least = int(note.decode().removeprefix("pim: too few cells: needed "))
+    return [*range(least, least + 12), 1000]
+
+
 def test_compiled_programs_from_any_content(pim, folder):
-    """A compiled program gives the same outputs from rows with any content, is primed, and names no cell past its own."""
+    """Compiled programs, of few cells and of many, give the same outputs from rows with any content, and these are what `run`
+    gives; they are primed, their inputs stand first, and they name no cell past their own."""
     chance = random.Random(2)
     for name in EXAMPLES:
         netlist = (ROOT / "examples" / name).read_bytes()
-        text = pim("compile", "--target", "magic", "--cells", "1000", stdin=netlist).output
-        equal(f"whether {name} is primed", machine.primed(text), True)
-        cells, inputs, outputs, body = machine.parsed(text)
-        named = [int(cell) for line in body for cell in line.split(" ")[1:]]
-        equal(f"whether {name} stays in its cells", max(named + inputs + outputs) < cells, True)
-        equal(f"the inputs of {name}", inputs, list(range(len(inputs))))
-        for _ in range(20):
-            vector = "".join(chance.choice("01") for _ in inputs)
-            wanted = machine.executed(text, vector, [0] * cells)
-            for _ in range(3):
-                row = [chance.randint(0, 1) for _ in range(cells)]
-                equal(f"{name} on {vector}", machine.executed(text, vector, row), wanted)
+        inputs = len(machine.parsed(pim("compile", "--target", "magic", "--cells", "1000", stdin=netlist).output)[1])
+        vectors = ["".join(chance.choice("01") for _ in range(inputs)) for _ in range(10)]
+        results = set()
+        for budget in budgets(pim, netlist):
+            text = pim("compile", "--target", "magic", "--cells", str(budget), stdin=netlist).output
+            shape(name, text, budget)
             (folder / "program.pim").write_bytes(text)
-            gives(pim("run", folder / "program.pim", stdin=vector.encode()), wanted.encode() + b"\n")
+            answer = pim("run", folder / "program.pim", stdin="".join(vector + "\n" for vector in vectors).encode())
+            results.add(answer.output)
+            for vector, result in zip(vectors, answer.output.decode().split("\n")):
+                row = [chance.randint(0, 1) for _ in range(budget)]
+                equal(f"{name} in {budget} cells on {vector}", machine.executed(text, vector, row), result)
+        equal(f"how many tables of results {name} has", len(results), 1)
+
+
+def shape(name, text, budget):
+    """Fails where a program is not primed, or its cells are not those that it says and may have."""
+    cells, inputs, outputs, body = machine.parsed(text)
+    named = [int(cell) for line in body for cell in line.split(" ")[1:]]
+    equal(f"whether {name} is primed", machine.primed(text), True)
+    equal(f"whether {name} stays in its {cells} cells of {budget}", max(named + inputs + outputs) < cells <= budget, True)
+    equal(f"the inputs of {name}", inputs, list(range(len(inputs))))
