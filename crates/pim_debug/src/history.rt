@@ -50,6 +50,27 @@ impl<'a> History<'a> {
         })
     }
 
+    /// The program.
+    pub(crate) fn program(&self) -> &'a Program
+        ensures { result.now ≡ self.now.program }
+    {
+        self.program
+    }
+
+    /// The last position: the number of the program's instructions.
+    pub(crate) fn last(&self) -> u32
+        ensures { result ≡ length self.now.program.instrs }
+    {
+        self.program.instrs().len() as u32
+    }
+
+    /// The bit in a cell, and false where the program has no such cell.
+    pub(crate) fn bit(&self, c: u32) -> bool
+        ensures { result ≡ bit (exec_k self.now.at self.now.program.instrs self.now.start) c }
+    {
+        self.row.bit(c)
+    }
+
     /// How many instructions are executed.
     pub(crate) fn at(&self) -> u32
         ensures value { result ≡ self.now.at }
