@@ -17,15 +17,15 @@ use Rattle.pim_file.specs.declared.fault.FileFault.{FileFault}
 use Rattle.pim_file.specs.declared.fault.FileFault.TheVariants as faults
 use Rattle.pim_file.specs.Sections.{Section}
 use Rattle.pim_file.specs.Sections as section
-use Rattle.pim_file.specs.LineForms.{target_of, counted_of, port_of}
-use Rattle.pim_file.specs.InstrForms.{instr_of}
+use Rattle.pim_text.specs.LineForms.{target_of, counted_of, port_of}
+use Rattle.pim_text.specs.InstrForms.{instr_of}
 use Rattle.pim_file.specs.Spelled.{HasLine, HasPortLine, HasText}
 use Rattle.pim_io.specs.Readings.{◌>>=◌}
 use Rattle.pim_file.specs.Text.{target_word, instr_text, counted_text, port_text, ports_text, instrs_text, head_text, text as text_of}
 use Rattle.pim_file.specs.Reading.{Reading, start, begun, with_input, with_output, with_instr, after_form, after_target, after_cells, after_input, after_output, after_cycles, after_outputs, after_inputs, after_end, after_in, after, is_ended, line_read}
 use Rattle.pim_file.specs.ProgramFile.{read_from, any_size, draft_of}
-use Rattle.pim_file.proofs.LineLemmas.{mapped, or_is, target_is, counted_is, port_is}
-use Rattle.pim_file.proofs.InstrLemmas.{instr_is}
+use Rattle.pim_text.proofs.LineLemmas.{mapped, or_is, target_is, counted_is, port_is}
+use Rattle.pim_text.proofs.InstrLemmas.{instr_is}
 
 -- one more port, and one more instruction, at the end of a text
 

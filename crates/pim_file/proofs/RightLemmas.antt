@@ -21,15 +21,15 @@ use Rattle.pim_file.specs.declared.fault.FileFault.{FileFault}
 use Rattle.pim_file.specs.declared.fault.FileFault.TheVariants as faults
 use Rattle.pim_file.specs.Sections.{Section}
 use Rattle.pim_file.specs.Sections as section
-use Rattle.pim_file.specs.LineForms.{target_of, counted_of, port_of}
-use Rattle.pim_file.specs.InstrForms.{instr_of}
+use Rattle.pim_text.specs.LineForms.{target_of, counted_of, port_of}
+use Rattle.pim_text.specs.InstrForms.{instr_of}
 use Rattle.pim_io.specs.Readings.{◌>>=◌}
 use Rattle.pim_file.specs.Text.{target_word, nor_text, instr_text}
 use Rattle.pim_file.specs.Reading.{Reading, start, begun, with_input, with_output, with_instr, after_input, after_output, after_cycles, after_outputs, after_inputs, after_end, after_instrs, after_in, after, is_ended}
 use Rattle.pim_file.specs.ProgramFile.{read_from, any_size, draft_of, with_fault, validated, sized, parse1_of}
 use Rattle.pim_file.specs.Right.{is_form, is_cells, is_input, is_output, is_cycles, is_instr, is_end, cycles_and_more, cycles_before, right_in_body, right, is_complete, first_wrong, is_cut_off, wrong_line, is_truncated}
-use Rattle.pim_file.proofs.LineLemmas.{or_is, mapped, target_is, counted_is, port_line, port_is}
-use Rattle.pim_file.proofs.InstrLemmas.{instr_is}
+use Rattle.pim_text.proofs.LineLemmas.{or_is, mapped, target_is, counted_is, port_line, port_is}
+use Rattle.pim_text.proofs.InstrLemmas.{instr_is}
 use Rattle.pim_file.proofs.OneText.{nothing_follows}
 
 -- the last of the lines

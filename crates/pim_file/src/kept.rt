@@ -1,7 +1,7 @@
 ghost use Rattle.std.specs.Prelude.{◌≡◌, Some, None, OnOk};
 ghost use Rattle.std.specs.Option.{ok_or};
 ghost use Rattle.pim_io.specs.Names.{IsLabel};
-ghost use Rattle.pim_file.specs.inner.PortLines.{port_view};
+ghost use Rattle.pim_text.specs.inner.PortLines.{port_view};
 ghost use Rattle.pim_file.specs.Reading.{begun, with_input, with_output, with_instr};
 ghost use Rattle.pim_file.specs.inner.Kept.{within_limit};
 

@@ -1,6 +1,6 @@
 use Rattle.std.proofs.Common.{◌≡◌, ◌++◌, drop}
-use Rattle.pim_file.specs.Text.{numbers_text}
-use Rattle.pim_file.proofs.text.Text.numbers.Given as goal
+use Rattle.pim_text.specs.Text.{numbers_text}
+use Rattle.pim_text.proofs.text.Text.numbers.Given as goal
 
 -- the text so far, with the numbers that are left, is the whole
 abbrev pub invariant-loop-number : goal.invariant-loop-number

@@ -1,6 +1,6 @@
 -- Inner: a walk over the fields of a text.
 use Rattle.std.specs.Prelude.{ℕ, List, [], Option, Some, None}
-use Rattle.pim_file.specs.Fields.{fields}
+use Rattle.pim_text.specs.Fields.{fields}
 
 -- the fields that a walk has left: those of a text, or none behind the last one
 abbrev pub fields_left : Option (List ℕ) → List (List ℕ)

@@ -1,6 +1,6 @@
 use Rattle.std.proofs.Common.{◌≡◌, ◌++◌, drop}
-use Rattle.pim_file.specs.Text.{ports_text}
-use Rattle.pim_file.proofs.printing.push_ports.Given as goal
+use Rattle.pim_text.specs.Text.{ports_text}
+use Rattle.pim_text.proofs.printing.push_ports.Given as goal
 
 -- the text so far, with the lines of the ports that are left, is the whole
 abbrev pub invariant-loop-port : goal.invariant-loop-port

@@ -1,6 +1,5 @@
 -- Where the spaces of a text cut it into fields, and which numbers these spell.
 use Rattle.std.proofs.Common.{◌≡◌, ℕ, ◌+◌, ◌-◌, ◌^◌, ◌<◌, ◌≤◌, Bool, true, false, cond, not, ltb, leb, eqb, List, [], ◌∷◌, ◌++◌, length, map, Option, Some, None, refl, ap, sym, ◌∙◌, arith, take, drop}
-use Rattle.std.specs.Prelude.{◌==◌}
 use Rattle.std.specs.Fmt.{decimal}
 use Rattle.std.specs.List.{position, position_or_len, list_all, join_with_byte}
 use Rattle.std.specs.Option.{option_map, option_and_then}
@@ -9,10 +8,11 @@ use Rattle.std.proofs.lemmas.Fmt.{digits_decimal}
 use Rattle.std.proofs.lemmas.List.{take_rest, append-nil}
 use Rattle.std.proofs.lemmas.List.Splits.{slice_split_first, join_with_byte-slice_split}
 use Rattle.pim_io.specs.Words.{is_digit}
-use Rattle.pim_file.specs.Fields.{is_space, fields, plain_number, numbers_of}
-use Rattle.pim_file.specs.Spelled.{AreSpelled}
-use Rattle.pim_file.specs.Text.{numbers_text}
-use Rattle.pim_file.proofs.NumberLemmas.{own, plain_number-decimal, word_is_decimal}
+use Rattle.pim_text.specs.Fields.{is_space, fields, plain_number, lacks}
+use Rattle.pim_text.specs.InstrForms.{cells_of}
+use Rattle.pim_text.specs.Spelled.{AreSpelled}
+use Rattle.pim_text.specs.Text.{numbers_text}
+use Rattle.pim_text.proofs.NumberLemmas.{own, plain_number-decimal, word_is_decimal}
 
 found : (b : Bool) (n m : ℕ) → cond b (Some n) None ≡ Some m → (b ≡ true) × (n ≡ m)
 found true n m e = (refl, cc)
@@ -50,10 +50,6 @@ pub fields_last : (text : List ℕ) → position is_space text ≡ None → fiel
 fields_last text e =
     let off = missed (ltb (position_or_len is_space text) (length text)) (position_or_len is_space text) e in
     no_space text (ltb-false _ _ off)
-
--- a text without a byte
-abbrev pub lacks : ℕ → List ℕ → Bool
-lacks c text = list_all (λ b. not (b == c)) text
 
 pub lacks-append : (c : ℕ) (a b : List ℕ) → lacks c a ≡ true → lacks c b ≡ true → lacks c (a ++ b) ≡ true
 lacks-append c [] b h k = k
@@ -104,20 +100,20 @@ pub join-numbers : (word : List ℕ) (ns : List ℕ) → join_with_byte 32 (word
 join-numbers word [] = sym (append-nil word)
 join-numbers word (n ∷ ns) = ap (λ (t : List ℕ). word ++ 32 ∷ t) (join-numbers (decimal n) ns)
 
--- the numbers of fields
-pub numbers_of-decimal : (ns : List ℕ) → AreSpelled ns → numbers_of (map decimal ns) ≡ Some ns
-numbers_of-decimal [] k = refl
-numbers_of-decimal (n ∷ ns) k = rw (plain_number-decimal n k.0, numbers_of-decimal ns k.1) refl
+-- the cells of words that are decimal numbers, by a reading of cells that reads these
+pub cells_of-decimal : (cell : List ℕ → Option ℕ) (ns : List ℕ) → ((n : ℕ) → n < 2 ^ 32 → cell (decimal n) ≡ Some n) → AreSpelled ns → cells_of cell (map decimal ns) ≡ Some ns
+cells_of-decimal cell [] reads k = refl
+cells_of-decimal cell (n ∷ ns) reads k = rw (reads n k.0, cells_of-decimal cell ns reads k.1) refl
 
 numbers_cons : (first : Option ℕ) (others : Option (List ℕ)) (ns : List ℕ) → option_and_then (λ n. option_map (λ (ms : List ℕ). n ∷ ms) others) first ≡ Some ns → (n : ℕ) × (ms : List ℕ) × (first ≡ Some n) × (others ≡ Some ms) × (ns ≡ n ∷ ms)
 numbers_cons None others ns e = absurd cc
 numbers_cons (Some n) None ns e = absurd cc
 numbers_cons (Some n) (Some ms) ns e = (n, ms, refl, refl, cc)
 
-pub fields_are_decimal : (fs : List (List ℕ)) (ns : List ℕ) → numbers_of fs ≡ Some ns → (fs ≡ map decimal ns) × AreSpelled ns
+pub fields_are_decimal : (fs : List (List ℕ)) (ns : List ℕ) → cells_of plain_number fs ≡ Some ns → (fs ≡ map decimal ns) × AreSpelled ns
 fields_are_decimal [] ns e = let none : ns ≡ [] = cc in rw none (refl, tt)
 fields_are_decimal (f ∷ fs) ns e =
-    let parts = numbers_cons (plain_number f) (numbers_of fs) ns e in
+    let parts = numbers_cons (plain_number f) (cells_of plain_number fs) ns e in
     let first = word_is_decimal f parts.0 parts.2 in
     let others = fields_are_decimal fs parts.1 parts.3 in
     let first_is : f ≡ decimal parts.0 = first.0 in

@@ -7,7 +7,7 @@ use Rattle.pim_io.specs.Options.{◌>>=◌}
 use Rattle.pim_isa.specs.declared.target.Target.{Target}
 use Rattle.pim_isa.specs.declared.target.Target.TheVariants.{Magic, Plim}
 use Rattle.pim_isa.specs.declared.port.Port.{Port}
-use Rattle.pim_file.specs.Fields.{is_space, behind, plain_number}
+use Rattle.pim_text.specs.Fields.{is_space, behind, plain_number}
 
 -- the target that a line names
 abbrev pub target_of : List ℕ → Option Target

@@ -1,5 +1,5 @@
 ghost use Rattle.std.specs.Prelude.{◌≡◌, [], ◌∷◌, ◌++◌, OnOk, codes, decimal};
-ghost use Rattle.pim_file.specs.Text.{counted_text, numbers_text};
+ghost use Rattle.pim_text.specs.Text.{counted_text, numbers_text};
 
 use itoa::Buffer;
 use pim_io::NoMemory;

@@ -12,14 +12,14 @@ use Rattle.pim_io.specs.Names.{IsLabel}
 use Rattle.pim_isa.specs.declared.target.Target.{Target}
 use Rattle.pim_isa.specs.declared.target.Target.TheVariants.{Magic, Plim}
 use Rattle.pim_isa.specs.declared.port.Port.{Port}
-use Rattle.pim_file.specs.Fields.{is_space, fields, behind, plain_number}
-use Rattle.pim_file.specs.LineForms.{target_of, counted_of, labelled, port_of}
+use Rattle.pim_text.specs.Fields.{is_space, fields, behind, plain_number, lacks}
+use Rattle.pim_text.specs.LineForms.{target_of, counted_of, labelled, port_of}
 use Rattle.pim_io.specs.Names.{is_label}
-use Rattle.pim_file.specs.Spelled.{HasPortLine}
-use Rattle.pim_file.specs.Text.{target_word}
-use Rattle.pim_file.proofs.LabelLemmas.{label_test, is_label-from_IsLabel}
-use Rattle.pim_file.proofs.NumberLemmas.{plain_number-decimal, word_is_decimal}
-use Rattle.pim_file.proofs.FieldLemmas.{lacks, lacks-decimal, fields_cut, join-fields}
+use Rattle.pim_text.specs.Spelled.{HasPortLine}
+use Rattle.pim_text.specs.Text.{target_word, target_line, port_line}
+use Rattle.pim_text.proofs.LabelLemmas.{label_test, is_label-from_IsLabel}
+use Rattle.pim_text.proofs.NumberLemmas.{plain_number-decimal, word_is_decimal}
+use Rattle.pim_text.proofs.FieldLemmas.{lacks-decimal, fields_cut, join-fields}
 
 -- options, one after another
 
@@ -70,14 +70,14 @@ counted_is word line n e =
 
 -- a target
 
-pub target_of-text : (target : Target) → target_of (codes "target " ++ target_word target) ≡ Some target
+pub target_of-text : (target : Target) → target_of (target_line target) ≡ Some target
 target_of-text Magic = refl
 target_of-text Plim = refl
 
-pub target_is : (line : List ℕ) (target : Target) → target_of line ≡ Some target → line ≡ codes "target " ++ target_word target
+pub target_is : (line : List ℕ) (target : Target) → target_of line ≡ Some target → line ≡ target_line target
 target_is line target e = by_word (bytes_eq line (codes "target magic")) (bytes_eq line (codes "target plim")) refl refl e
   where
-    by_word : (magic plim : Bool) → bytes_eq line (codes "target magic") ≡ magic → bytes_eq line (codes "target plim") ≡ plim → cond magic (Some Magic) (cond plim (Some Plim) None) ≡ Some target → line ≡ codes "target " ++ target_word target
+    by_word : (magic plim : Bool) → bytes_eq line (codes "target magic") ≡ magic → bytes_eq line (codes "target plim") ≡ plim → cond magic (Some Magic) (cond plim (Some Plim) None) ≡ Some target → line ≡ target_line target
     by_word true plim p q e = subst (λ t. line ≡ codes "target " ++ target_word t) (some_is Magic target e) ((bytes_eq-Decides line (codes "target magic")).0 p)
     by_word false true p q e = subst (λ t. line ≡ codes "target " ++ target_word t) (some_is Plim target e) ((bytes_eq-Decides line (codes "target plim")).0 q)
     by_word false false p q e = absurd cc
@@ -116,9 +116,6 @@ join-first word rest (f ∷ fs) e = ap (λ (t : List ℕ). word ++ 32 ∷ t) (ap
 space_cuts : (text : List ℕ) (space : ℕ) → position is_space text ≡ Some space → text ≡ take space text ++ 32 ∷ drop (space + 1) text
 space_cuts text space e =
     sym (join-fields text) ∙ ap (λ (fs : List (List ℕ)). join_with_byte 32 fs) (fields_cut text space e) ∙ join-first (take space text) (drop (space + 1) text) (fields (drop (space + 1) text)) refl
-
-abbrev pub port_line : List ℕ → Port → List ℕ
-port_line word port = ((word ++ decimal port.cell) ++ codes " ") ++ port.label
 
 regroup_port : (word cell label : List ℕ) → ((word ++ cell) ++ codes " ") ++ label ≡ word ++ (cell ++ 32 ∷ label)
 regroup_port word cell label = simp append_assoc

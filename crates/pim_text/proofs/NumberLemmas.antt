@@ -6,7 +6,7 @@ use Rattle.std.proofs.lemmas.Bool.{lt-ltb, le-leb, ltb-true, eq-eqb, ne_eqb, ltb
 use Rattle.std.proofs.lemmas.Str.Parse.{IsNumeralModel, IsDigitsTest, FoldsDigits, numerals_by_fold}
 use Rattle.std.proofs.lemmas.Fmt.{decimal_nonempty, length-decimal-le, first_decimal, decimal_digit, digits_decimal, digits_value-decimal, decimal-digits_value}
 use Rattle.pim_io.specs.Words.{is_digit, digits_after, number_of}
-use Rattle.pim_file.specs.Fields.{has_leading_zero, plain_number}
+use Rattle.pim_text.specs.Fields.{has_leading_zero, plain_number}
 
 tells : IsDigitsTest (λ ds. list_all is_digit ds ≡ true)
 tells = search rules

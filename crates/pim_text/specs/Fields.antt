@@ -1,6 +1,6 @@
--- The parts of a line: its fields, which single spaces separate, and the numbers that they spell.
-use Rattle.std.specs.Prelude.{ℕ, ◌==◌, ◌&&◌, nat_lt, Bool, if◌then◌else◌, List, [], ◌∷◌, length, drop, take, slice_index, Option, Some, None, option_map, option_and_then}
-use Rattle.std.specs.List.{slice_split}
+-- The parts of a line of a program file: its fields, which single spaces separate, and the numbers that they spell.
+use Rattle.std.specs.Prelude.{ℕ, ◌==◌, ◌&&◌, not, nat_lt, Bool, if◌then◌else◌, List, length, drop, take, slice_index, Option, Some, None}
+use Rattle.std.specs.List.{slice_split, list_all}
 use Rattle.std.specs.Str.{bytes_eq}
 use Rattle.pim_io.specs.Words.{number_of}
 
@@ -24,12 +24,6 @@ has_leading_zero word = nat_lt 1 (length word) && (slice_index word 0 == 48)
 unfoldable pub plain_number : List ℕ → Option ℕ
 plain_number word = if has_leading_zero word then None else number_of word
 
--- the number of the first field, and the fields after it
-abbrev pub number_at : List (List ℕ) → Option (ℕ × List (List ℕ))
-number_at [] = None
-number_at (field ∷ others) = option_map (λ n. (n, others)) (plain_number field)
-
--- the numbers of all fields
-abbrev pub numbers_of : List (List ℕ) → Option (List ℕ)
-numbers_of [] = Some []
-numbers_of (field ∷ others) = option_and_then (λ n. option_map (λ ns. n ∷ ns) (numbers_of others)) (plain_number field)
+-- a text without this byte
+abbrev pub lacks : ℕ → List ℕ → Bool
+lacks c text = list_all (λ b. not (b == c)) text
