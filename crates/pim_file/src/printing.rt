@@ -1,11 +1,11 @@
 ghost use Rattle.std.specs.Prelude.{◌≡◌, ℕ, ◌<◌, [], ◌∷◌, ◌++◌, length, take, OnOk, IfOk, Ok, Err, codes, decimal};
 ghost use Rattle.pim_file.specs.declared.fault.FileFault.TheVariants as faults;
 ghost use Rattle.pim_file.specs.ProgramFile.{parse1_of};
-ghost use Rattle.pim_file.specs.Text.{head_text, instr_text, instrs_text, nor_text, operand_text, port_text, ports_text, target_word, text as text_of};
+ghost use Rattle.pim_file.specs.Text.{head_text, instrs_text, text as text_of};
 
-use crate::Text;
 use pim_io::NoMemory;
-use pim_isa::{Ins, Instr, Operand, Port, Program, Target};
+use pim_isa::{Instr, Program, Target};
+use pim_text::{Text, line_laws, push_instr, push_ports, target_name};
 use std::alloc::Global;
 
 /// The lines before the ports.
@@ -36,6 +36,7 @@ pub fn print(alloc: Global, program: &Program) -> Result<Vec<u8>, NoMemory>
     ensures again { IfOk result (λ bytes. parse1_of bytes.items ≡ Ok program.now) }
     ensures cut { IfOk result (λ bytes. (k : ℕ) → k < length bytes.items → parse1_of (take k bytes.items) ≡ Err faults.Truncated) }
 {
+    line_laws();
     let mut text = Text::new(alloc);
     push_head(&mut text, program.target(), program.cells())?;
     push_ports(&mut text, b"input ", program.inputs())?;

@@ -28,7 +28,7 @@ pub record OneLine : Type 0 where
 -- No newline stands in a line.
 pub record LackNewlines : Type 0 where
   pub target : (target : Target) → lacks 10 (target_line target) ≡ true
-  pub number : (n : ℕ) → n < 2 ^ 32 → lacks 10 (decimal n) ≡ true
+  pub counted : (word : List ℕ) (n : ℕ) → lacks 10 word ≡ true → n < 2 ^ 32 → lacks 10 (word ++ decimal n) ≡ true
   pub port : (word : List ℕ) (port : Port) → lacks 10 word ≡ true → HasPortLine port → lacks 10 (port_line word port) ≡ true
   pub instr : (i : Instr) → HasLine i → lacks 10 (instr_text i) ≡ true
 
