@@ -26,7 +26,11 @@ needed_of g = g.inputs + peak (gate_graph g) (gates g)
 abbrev pub is_made : ℕ → Bool
 is_made l = (l % 2 == 1) || (l / 2 == 0)
 
+-- how many distinct outputs are so
+abbrev pub made_outputs : AigView → ℕ
+made_outputs g = count_by is_made (gate_graph g).roots
+
 -- the graph needs so many cells at most: one for each input, each AND node, and each distinct output that is a complement or a
 -- constant
 abbrev pub coarse_of : AigView → ℕ
-coarse_of g = g.inputs + length g.ands + count_by is_made (gate_graph g).roots
+coarse_of g = g.inputs + length g.ands + made_outputs g
