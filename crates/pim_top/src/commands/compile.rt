@@ -45,6 +45,8 @@ impl WholeText for Compile {
     fn text(&self, alloc: Global, _opened: &(), input: &[u8]) -> Result<Vec<u8>, Judgement> {
         text_of(alloc, *self, input)
     }
+
+    fn tell_fine(&self) {}
 }
 
 /// The text of the program that a netlist compiles to.

@@ -2,7 +2,7 @@ use Rattle.std.proofs.Common.{◌≡◌, ◌++◌, ◌+◌, ◌∙◌, List, ℕ
 use Rattle.std.proofs.lemmas.Result.{err_from_is_err_and}
 use Rattle.pim_io.specs.Outside.{Wrote}
 use Rattle.pim_io.specs.declared.sink.SinkFault.{SinkFault}
-use Rattle.pim_top.specs.Notes.{cycle_labels, label_of}
+use Rattle.pim_top.specs.Notes.{cycle_labels}
 use Rattle.pim_top.proofs.CycleLabels.{labels-all, labels-more, labels-rest}
 use Rattle.pim_top.proofs.note.write_labels.Goals as goal
 

@@ -1,5 +1,5 @@
 -- A program file and lines that `run` takes are not refused.
-use Rattle.std.proofs.Common.{◌≡◌, ◌⊎◌, ℕ, suc, ◌+◌, ◌<◌, ◌≤◌, Bool, true, false, cond, eqb, leb, List, [], ◌∷◌, Option, None, Some, Result, Ok, Err, length, take, inl, inr, refl, sym, ap, ◌∙◌, subst, arith}
+use Rattle.std.proofs.Common.{◌≡◌, ℕ, ◌+◌, ◌≤◌, Bool, true, false, cond, eqb, leb, List, [], ◌∷◌, None, Some, Result, Ok, Err, length, take, inl, inr, refl, sym, ap, ◌∙◌, subst, arith}
 use Rattle.std.specs.Prelude.{All}
 use Rattle.std.proofs.lemmas.Bool.{le-leb}
 use Rattle.std.proofs.lemmas.Bool.Decides.{nat_tests}
@@ -12,9 +12,11 @@ use Rattle.pim_vectors.specs.Tiles.{IsVector}
 use Rattle.pim_vectors.specs.declared.limits.TheConstants.{MAX_LINES}
 use Rattle.pim_words.specs.declared.command.Command.TheVariants as commands
 use Rattle.pim_words.specs.declared.command.FillWord.{FillWord}
-use Rattle.pim_top.specs.Decides.{Decides, RowsDecide}
+use Rattle.pim_top.specs.Decides.{RowsDecide}
 use Rattle.pim_top.specs.Judged.{first_refusal, input_refusal, is_vector, judged_lines, settled}
+use Rattle.pim_top.specs.Rows.{RowsEnd}
 use Rattle.pim_top.specs.Statuses.{answer_status}
+use Rattle.pim_top.specs.Streams.{Seen}
 use Rattle.pim_top.specs.Walks.{ran}
 use Rattle.pim_top.specs.commands.Run.{RunsFine, fill_of, run_by, run_of}
 use Rattle.pim_top.specs.declared.judgement.Judgement.{Judgement}
@@ -22,8 +24,9 @@ use Rattle.pim_top.specs.declared.judgement.Judgement.TheVariants as judgement
 use Rattle.pim_top.specs.declared.refusal.Origin.TheVariants as origin
 use Rattle.pim_top.specs.declared.refusal.Refusal.{Refusal}
 use Rattle.pim_top.specs.declared.refusal.Refusal.TheVariants as refusal
-use Rattle.pim_top.specs.declared.status.Status.{Status}
 use Rattle.pim_top.specs.declared.status.Status.TheVariants as status
+use Rattle.pim_top.specs.inner.Faultless.{IsComplete}
+use Rattle.pim_top.proofs.RowsEnds.{rows-decided}
 use Rattle.pim_top.proofs.WalkStates.{vector-yes}
 
 -- few vectors are not refused
@@ -47,10 +50,6 @@ fine-input width bytes fits few all =
     judged : (bytes : List ℕ) → leb (length bytes) MAX_INPUT ≡ true → judged_lines width bytes ≡ lines bytes
     judged bytes e = ap (λ (b : Bool). cond b (lines bytes) (lines (settled width (take MAX_INPUT bytes)))) e
 
--- done, or out of memory
-abbrev IsFineStatus : Status → Type 0
-IsFineStatus s = (s ≡ status.Done) ⊎ (s ≡ status.NoMemory)
-
 abbrev ok_of : Runner → Result Runner Judgement
 ok_of r = Ok r
 
@@ -68,15 +67,13 @@ rows-fine fill file bytes answer fine h =
     same-ok : (r s : Runner) → ok_of r ≡ ok_of s → r ≡ s
     same-ok r s e = ap (λ (x : Result Runner Judgement). by x s) e
 
-pub run-fine : (fill : FillWord) (file bytes : List ℕ) (answer : Result (List ℕ) Refusal) → RunsFine file bytes → Decides (commands.Run fill) file bytes answer → IsFineStatus (answer_status answer)
-run-fine fill file bytes (Ok text) fine h = inl refl
-run-fine fill file bytes (Err refusal.Usage) fine h = elim h [ inl e ↦ absurd e | inr l ↦ inl (rows-fine fill file bytes (Err refusal.Usage) fine l.1) ]
-run-fine fill file bytes (Err refusal.NoMemory) fine h = inr refl
-run-fine fill file bytes (Err (refusal.ReadFault o)) fine h = elim h [ inl e ↦ absurd e | inr l ↦ inl (rows-fine fill file bytes (Err (refusal.ReadFault o)) fine l.1) ]
-run-fine fill file bytes (Err (refusal.TooLong origin.Program)) fine h = elim h [ inl e ↦ absurd (let z : ⊥ = omega (arith, fine.file_fits, e) in z) | inr l ↦ inl (rows-fine fill file bytes (Err (refusal.TooLong origin.Program)) fine l.1) ]
-run-fine fill file bytes (Err (refusal.TooLong origin.Input)) fine h = elim h [ inl e ↦ absurd e | inr l ↦ inl (rows-fine fill file bytes (Err (refusal.TooLong origin.Input)) fine l.1) ]
-run-fine fill file bytes (Err refusal.WriteFault) fine h = elim h [ inl e ↦ absurd e | inr l ↦ inl (rows-fine fill file bytes (Err refusal.WriteFault) fine l.1) ]
-run-fine fill file bytes (Err (refusal.Judged j)) fine h = elim h [
-  | inl e ↦ absurd (let a : run_of fill file ≡ Ok (runner_of fine.program (fill_of fill)) = ap (run_by fill) fine.is_program in let b = e.1 in let z : ⊥ = cc in z)
-  | inr l ↦ inl (rows-fine fill file bytes (Err (refusal.Judged j)) fine l.1)
-]
+-- what `run` takes is done, or memory ran out
+pub run-complete : {Y : Type 0} (fill : FillWord) (seen : Seen) (result : Result Y Refusal) → RowsEnd (run_of fill) seen result → IsComplete (commands.Run fill) seen result
+run-complete fill seen result h = record {
+  ends = λ file input t u calm fine. elim (rows-decided (run_of fill) seen file input result t u calm h) [
+    | inl (inl long) ↦ absurd (let z : ⊥ = omega (arith, fine.file_fits, long.0) in z)
+    | inl (inr judged) ↦ absurd (let a : run_of fill file ≡ Ok (runner_of fine.program (fill_of fill)) = ap (run_by fill) fine.is_program in let b = judged.2 in let z : ⊥ = cc in z)
+    | inr (inl late) ↦ inl (late.3 ∙ rows-fine fill file input late.0 fine late.2)
+    | inr (inr wanting) ↦ inr wanting
+  ];
+}
