@@ -1,4 +1,5 @@
 pub mod AndLists
+pub mod Bounds
 pub mod Counts
 pub mod Finished
 pub mod Fitting

@@ -1,5 +1,5 @@
 use Rattle.pim_compile.proofs.Composed.{candidate_fits, candidate_unfit}
-use Rattle.pim_compile.proofs.compiling.candidate.Goals as goal
+use Rattle.pim_compile.proofs.magic.candidate.Goals as goal
 
 pub returns-clause-fits : goal.returns-clause-fits
 returns-clause-fits c =
