@@ -10,3 +10,7 @@ pub mod OneText
 pub mod ReadBack
 mod ReadExamples
 pub mod RightLemmas
+pub mod ManyLemmas
+pub mod CodeLemmas
+pub mod ItemLemmas
+pub mod KeptLemmas

@@ -3,3 +3,4 @@ pub mod FieldWalks
 pub mod PortLines
 pub mod Kept
 pub mod Places
+pub mod BinaryKept

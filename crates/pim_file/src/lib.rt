@@ -1,7 +1,7 @@
 //! The program file: the text and the binary form that a program is written as, and read from.
 #![tactic(auto)]
 
-mod binary_printing;
+mod binary;
 mod fault;
 mod fields;
 mod instrs;
@@ -13,7 +13,7 @@ mod reader;
 mod section;
 mod text;
 
-pub use binary_printing::print_binary;
+pub use binary::print_binary;
 pub use fault::FileFault;
 pub use parsing::{parse, parse_text};
 pub use printing::print;
