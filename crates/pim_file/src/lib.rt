@@ -3,21 +3,16 @@
 
 mod binary;
 mod fault;
-mod fields;
-mod instrs;
 mod kept;
-mod lines;
 mod parsing;
 mod printing;
 mod reader;
 mod section;
-mod text;
 
 pub use binary::print_binary;
 pub use fault::FileFault;
 pub use parsing::{parse, parse_text};
 pub use printing::print;
-use text::Text;
 
 #[cfg(test)]
 mod tests;
