@@ -1,8 +1,10 @@
 -- Seven-bit codes as this form has them: each number in its shortest spelling.
-use Rattle.std.proofs.Common.{◌≡◌, ℕ, zero, suc, ◌+◌, ◌-◌, ◌*◌, ◌/◌, ◌%◌, ◌^◌, ◌<◌, ◌≤◌, Bool, true, false, cond, not, ◌&&◌, ◌||◌, eqb, ltb, leb, List, [], ◌∷◌, ◌++◌, length, refl, ap, sym, ◌∙◌, arith, get_or, take, drop, nat_lt, nat_le, add-one}
+use Rattle.std.proofs.Common.{◌≡◌, ℕ, zero, suc, ◌+◌, ◌-◌, ◌*◌, ◌/◌, ◌%◌, ◌^◌, ◌<◌, ◌≤◌, Bool, true, false, cond, not, ◌&&◌, ◌||◌, eqb, ltb, leb, List, [], ◌∷◌, ◌++◌, length, refl, ap, sym, ◌∙◌, arith, get_or, take, drop, nat_lt, nat_le, add-one, subst, length-append}
 use Rattle.std.specs.Str.{bytes_eq}
 use Rattle.std.proofs.lemmas.Bool.Decides.{nat_tests}
 use Rattle.std.proofs.lemmas.Bool.{false≢true, eq-eqb, ne_eqb}
+use Rattle.std.proofs.lemmas.List.{take_at}
+use Rattle.std.proofs.Math.Nat.{pow-suc}
 use Rattle.pim_io.specs.declared.codes.Code.TheVariants.{Got, Long, Short}
 use Rattle.pim_io.specs.Codes.{code_value, high_len, is_high, code_past, first_code, code_at, code_within, code_of}
 
@@ -119,3 +121,68 @@ shortest_code bytes value next small e =
     let within : h < length bytes = grind (arith, nat_tests, got.1) in
     let own = shortest h 4 bytes refl within (omega arith) small in
     to_next bytes h value next (sym got.4 ∙ omega arith) (ap (λ (n : ℕ). code_value (take n bytes)) (sym (add-one h)) ∙ got.3) own
+
+-- the shortest code of a number is read as it, whatever follows
+
+record IsCode (n value : ℕ) (rest : List ℕ) : Type 0 where
+  high : high_len (code_within n value ++ rest) + 1 ≡ length (code_within n value)
+  says : code_value (code_within n value) ≡ value
+  short : length (code_within n value) ≤ n + 1
+
+one_byte : (n value : ℕ) (rest : List ℕ) → value < 128 → IsCode n value rest
+one_byte n value rest h =
+    let code = code_within-last n value h in
+    let low : is_high value ≡ false = grind (arith, nat_tests) in
+    record { high = rw (code, low) refl; says = rw code (omega arith); short = rw code (omega arith) }
+
+code_is : (n value : ℕ) (rest : List ℕ) → value < 128 ^ suc n → IsCode n value rest
+code_is zero value rest h = one_byte zero value rest (omega arith)
+code_is (suc n) value rest h = by_size (nat_lt value 128) refl (λ l. code_is n (value / 128) rest l)
+  where
+    by_size : (t : Bool) → nat_lt value 128 ≡ t → (value / 128 < 128 ^ suc n → IsCode n (value / 128) rest) → IsCode (suc n) value rest
+    by_size true is more = one_byte (suc n) value rest (grind (arith, nat_tests))
+    by_size false is more =
+        let large : 128 ≤ value = grind (arith, nat_tests) in
+        let code = code_within-more n value large in
+        let power : 128 ^ suc (suc n) ≡ 128 ^ suc n * 128 = pow-suc 128 (suc n) in
+        let tail = more (omega arith) in
+        let tail_high = tail.high in
+        let tail_says = tail.says in
+        let tail_short = tail.short in
+        let first : is_high (value % 128 + 128) ≡ true = grind (arith, nat_tests) in
+        record {
+          high = rw code (rw first (omega arith));
+          says = rw code (omega arith);
+          short = rw code (omega arith);
+        }
+
+pub code_is_read : (value : ℕ) (rest : List ℕ) → value < 2 ^ 32 → code_at (code_of value ++ rest) 0 ≡ Got value (length (code_of value))
+unfolding code_of code_at
+code_is_read value rest h =
+    let code = code_within 4 value in
+    let is = code_is 4 value rest (omega arith) in
+    let high = is.high in
+    let short = is.short in
+    let whole : length (code ++ rest) ≡ length code + length rest = length-append code rest in
+    let low : nat_le 5 (high_len (code ++ rest)) ≡ false = grind (arith, nat_tests) in
+    let within : nat_lt (high_len (code ++ rest)) (length (code ++ rest)) ≡ true = grind (arith, nat_tests) in
+    let says : code_value (take (high_len (code ++ rest) + 1) (code ++ rest)) ≡ value = ap code_value (take_at code rest _ (sym high)) ∙ is.says in
+    let small : nat_lt value (2 ^ 32) ≡ true = grind (arith, nat_tests) in
+    rw (low, within, says, small) (ap (Got value) (omega arith))
+
+pub code_is_some : (value : ℕ) → 1 ≤ length (code_of value)
+unfolding code_of
+code_is_some value = by_size (nat_lt value 128) refl
+  where
+    by_size : (t : Bool) → nat_lt value 128 ≡ t → 1 ≤ length (code_within 4 value)
+    by_size true is = rw (code_within-last 4 value (grind (arith, nat_tests))) (omega arith)
+    by_size false is = rw (code_within-more 3 value (grind (arith, nat_tests))) (omega arith)
+
+-- a number that is read is below 2 ^ 32
+pub code_is_small : (bytes : List ℕ) (value next : ℕ) → code_at bytes 0 ≡ Got value next → value < 2 ^ 32
+unfolding code_at
+code_is_small bytes value next e =
+    let h = high_len bytes in
+    let got = got_at (nat_le 5 h) (nat_lt h (length bytes)) (nat_lt (code_value (take (h + 1) bytes)) (2 ^ 32)) _ _ value next e in
+    let small : code_value (take (h + 1) bytes) < 2 ^ 32 = grind (arith, nat_tests, got.2) in
+    subst (λ (n : ℕ). n < 2 ^ 32) got.3 small

@@ -1,4 +1,9 @@
 mod Examples
+pub mod CodeLemmas
+pub mod ItemLemmas
+pub mod ManyLemmas
+pub mod BinaryLemmas
+pub mod KeptLemmas
 pub mod Laws
 pub mod LimitLemmas
 pub mod OneText
@@ -6,7 +11,3 @@ pub mod OptionLemmas
 pub mod ReadBack
 mod ReadExamples
 pub mod RightLemmas
-pub mod ManyLemmas
-pub mod CodeLemmas
-pub mod ItemLemmas
-pub mod KeptLemmas

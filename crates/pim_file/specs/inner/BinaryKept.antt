@@ -44,3 +44,7 @@ draft_within_limit bytes = do
   kept ← kept_at (record { place = 5; rest = drop 5 bytes })
   draft ← closed_at kept.0 kept.1.place kept.1.rest
   ok_or draft faults.TooLarge
+
+-- the program of the whole file
+abbrev pub program2_within_limit : List ℕ → Result ProgramView FileFault
+program2_within_limit bytes = draft_within_limit bytes >>= validated

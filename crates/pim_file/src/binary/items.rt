@@ -6,12 +6,13 @@ ghost use Rattle.pim_io.specs.Readings.{Gives};
 ghost use Rattle.pim_io.specs.declared.limits.TheConstants.{MAX_PROGRAM};
 ghost use Rattle.pim_file.specs.Items.{Cursor, further, wrong_before, byte_at, shown_at, number_at, is_label_length, length_at, many};
 ghost use Rattle.pim_file.specs.BinaryReading.{target_at, port_at};
-ghost use Rattle.pim_file.specs.inner.PortLines.{port_view};
+ghost use Rattle.pim_text.specs.PortLines.{port_view};
 
 use crate::fault::FileFault;
-use crate::lines::PortLine;
+
 use pim_io::{Code, MAX_NAME, get_code};
 use pim_isa::Target;
+use pim_text::PortLine;
 use std::marker::Model;
 
 /// A walk over the items of a binary program file: the bytes that are left, and the place of the first of them. It hands out
@@ -120,8 +121,7 @@ impl<'a> Items<'a> {
     /// The length of a label.
     #[tactic(auto, unfolding(crate::specs::Items::length_at))]
     fn length(&mut self) -> Result<u32, FileFault>
-        ensures exact { Gives FileFault.NoMemory (λ number. (number, self.new)) result (length_at self.old) }
-        ensures within { IfOk result (λ number. (0 < number) × (number ≤ 4096)) }
+        ensures { Gives FileFault.NoMemory (λ length. (length, self.new)) result (length_at self.old) }
     {
         let length = self.number()?;
         if length >= 1 && length as usize <= MAX_NAME {

@@ -1,10 +1,9 @@
-ghost use Rattle.std.specs.Prelude.{◌≡◌, ◌≤◌, length, IsTrue, IfOk};
+ghost use Rattle.std.specs.Prelude.{◌≡◌, ◌≤◌, length, IsTrue};
 ghost use Rattle.pim_io.specs.Readings.{Gives};
 ghost use Rattle.pim_io.specs.declared.limits.TheConstants.{MAX_PROGRAM};
 ghost use Rattle.pim_file.specs.Items.{counted, many};
-ghost use Rattle.pim_file.specs.BinaryReading.{is_binary, port_at, instr_at, closed_at, parse2_of};
-ghost use Rattle.pim_file.specs.inner.Kept.{HasFewParts};
-ghost use Rattle.pim_file.specs.inner.BinaryKept.{with_inputs, with_outputs, with_instrs, kept_with, kept_at, draft_within_limit};
+ghost use Rattle.pim_file.specs.BinaryReading.{is_binary, port_at, instr_at};
+ghost use Rattle.pim_file.specs.inner.BinaryKept.{with_inputs, with_outputs, with_instrs, kept_with, kept_at, draft_within_limit, program2_within_limit};
 
 use crate::binary::items::Items;
 use crate::fault::FileFault;
@@ -25,7 +24,7 @@ pub(crate) fn parse_binary(alloc: Global, bytes: &[u8]) -> Result<Program, FileF
     requires tag { IsTrue (is_binary bytes.now) }
     requires long { 5 ≤ length bytes.now }
     requires short { length bytes.now ≤ MAX_PROGRAM }
-    ensures { Gives FileFault.NoMemory (λ program. program) result (parse2_of bytes.now) }
+    ensures { Gives FileFault.NoMemory (λ program. program) result (program2_within_limit bytes.now) }
 {
     let draft = draft(alloc, bytes)?;
     Ok(Program::new(draft)?)
@@ -34,11 +33,9 @@ pub(crate) fn parse_binary(alloc: Global, bytes: &[u8]) -> Result<Program, FileF
 /// The draft of a binary program file, not checked yet.
 #[tactic(auto, unfolding(crate::specs::inner::BinaryKept::draft_within_limit))]
 fn draft(alloc: Global, bytes: &[u8]) -> Result<ProgramDraft, FileFault>
-    requires tag { IsTrue (is_binary bytes.now) }
     requires long { 5 ≤ length bytes.now }
     requires short { length bytes.now ≤ MAX_PROGRAM }
-    ensures exact { Gives FileFault.NoMemory (λ draft. draft) result (draft_within_limit bytes.now) }
-    ensures few { IfOk result HasFewParts }
+    ensures { Gives FileFault.NoMemory (λ draft. draft) result (draft_within_limit bytes.now) }
 {
     let mut items = Items::new(bytes, 5);
     let kept = kept(alloc, &mut items)?;

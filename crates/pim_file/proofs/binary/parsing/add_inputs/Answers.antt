@@ -2,7 +2,7 @@ use Rattle.std.proofs.lemmas.Result.{err_from_is_err_and}
 use Rattle.pim_file.specs.Reading.{with_input}
 use Rattle.pim_file.specs.BinaryReading.{port_at}
 use Rattle.pim_file.specs.inner.BinaryKept.{with_inputs}
-use Rattle.pim_file.specs.inner.PortLines.{port_view}
+use Rattle.pim_text.specs.PortLines.{port_view}
 use Rattle.pim_file.proofs.ManyLemmas.{goes_on, ends, is_done}
 use Rattle.pim_file.proofs.KeptLemmas.{no_inputs, more_inputs}
 use Rattle.pim_file.proofs.binary.parsing.add_inputs.Goals as goal
