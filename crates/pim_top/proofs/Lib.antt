@@ -10,4 +10,4 @@ pub mod RowsEnds
 pub mod CompileFine
 pub mod RunFine
 pub mod Clauses
-pub mod CycleLabels
+pub mod SpacedLabels
