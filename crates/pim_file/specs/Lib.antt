@@ -1,8 +1,5 @@
 pub mod Text
 pub mod Spelled
-pub mod Fields
-pub mod LineForms
-pub mod InstrForms
 pub mod Sections
 pub mod Reading
 pub mod ProgramFile

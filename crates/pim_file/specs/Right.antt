@@ -6,8 +6,8 @@ use Rattle.pim_io.specs.Lines.{LineView}
 use Rattle.pim_isa.specs.Programs.{ProgramView}
 use Rattle.pim_file.specs.declared.fault.FileFault.{FileFault}
 use Rattle.pim_file.specs.declared.fault.FileFault.TheVariants as faults
-use Rattle.pim_file.specs.LineForms.{target_of, counted_of, port_of}
-use Rattle.pim_file.specs.InstrForms.{instr_of}
+use Rattle.pim_text.specs.LineForms.{target_of, counted_of, port_of}
+use Rattle.pim_text.specs.InstrForms.{instr_of}
 
 -- the first line
 abbrev pub is_form : List ℕ → Bool

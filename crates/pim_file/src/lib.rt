@@ -2,20 +2,15 @@
 #![tactic(auto)]
 
 mod fault;
-mod fields;
-mod instrs;
 mod kept;
-mod lines;
 mod parsing;
 mod printing;
 mod reader;
 mod section;
-mod text;
 
 pub use fault::FileFault;
 pub use parsing::{parse, parse_text};
 pub use printing::print;
-use text::Text;
 
 #[cfg(test)]
 mod tests;

@@ -14,6 +14,7 @@ use crate::fault::FileFault;
 use crate::reader::Reader;
 use pim_io::{MAX_PROGRAM, Scan};
 use pim_isa::{Program, ProgramDraft};
+use pim_text::line_laws;
 use std::alloc::Global;
 
 /// The program that a text is of, or the first fault: the first line that may not stand where it stands, else that the
@@ -32,6 +33,7 @@ pub fn parse_text(alloc: Global, bytes: &[u8]) -> Result<Program, FileFault>
     // No other bytes are read as this program.
     ensures spelled { IfOk result (λ program. bytes.now ≡ text_of program) }
 {
+    line_laws();
     validated(alloc, bytes)
 }
 
@@ -61,6 +63,7 @@ fn draft(alloc: Global, bytes: &[u8]) -> Result<ProgramDraft, FileFault>
     ensures exact { Gives FileFault.NoMemory (λ draft. draft) result (read_from within_limit start (lines bytes.now)) }
     ensures few { IfOk result HasFewParts }
 {
+    line_laws();
     let mut reader = Reader::new(alloc);
     let mut scan = Scan::new(bytes);
     while let Some(line) = scan.line() {

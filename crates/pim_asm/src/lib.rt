@@ -1,0 +1,11 @@
+//! Assembly: a text with names for cells and labels in quotes, which is assembled to a program; and the listing of a program,
+//! which is assembled to that program again.
+#![tactic(auto)]
+
+mod assembler;
+mod fault;
+mod listings;
+
+pub use assembler::assemble;
+pub use fault::AsmFault;
+pub use listings::listing;
