@@ -33,7 +33,7 @@ use Rattle.pim_words.proofs.Alike.{IsBareOf, reads_alike}
 
 -- ---- the definition
 
-pub compile_alike : (targets levels : Bor (List (Bor Text))) → texts targets.now ≡ codes "magic" ∷ [] → texts levels.now ≡ codes "0" ∷ []
+pub compile_alike : (targets levels : Bor (List (Bor Text))) → texts targets.now ≡ codes "magic" ∷ codes "plim" ∷ [] → texts levels.now ≡ codes "0" ∷ []
     → ReadsAlike (compile_by (vp.Names targets) (vp.Names levels)) compile_line
 compile_alike targets levels target level =
     let is_bare : IsBareOf (compile_by (vp.Names targets) (vp.Names levels)) (compile_by (one_of_names (texts targets.now)) (one_of_names (texts levels.now))) =

@@ -1,18 +1,20 @@
-//! The words of `compile`: `--target magic --cells N [--level 0]`.
+//! The words of `compile`: `--target magic|plim --cells N [--level 0]`.
 ghost use Rattle.std.specs.Prelude.{◌≡◌, IfOk, OnOk, false, map, option_map, true, codes};
 ghost use Rattle.std.specs.String.{string_bytes};
-ghost use Rattle.clap.specs.Words.{app_of, found_of, matches_of, one_text, IsParsedFrom};
+ghost use Rattle.clap.specs.Words.{app_of, first_value, found_of, matches_of, one_text};
+ghost use Rattle.clap.specs.Words.{IsParsedFrom};
 ghost use Rattle.clap.specs.declared.parser.matches.ArgMatches.{ArgMatches};
 ghost use Rattle.pim_words.specs.Lines.{compile_line};
 ghost use Rattle.pim_words.specs.Matches.{HasCells};
 ghost use Rattle.pim_words.specs.Reading.{IsWithin, ReadsAlike, compile_said, compile_with, refuses};
+ghost use Rattle.pim_words.specs.Reading.{target_of};
 
 use crate::options::{choice_of, option_of};
 use crate::{Command, LevelWord, TargetWord, WordsFault};
 use clap::ArgMatches;
 use std::alloc::{AllocError, Global};
 
-static TARGETS: [&str; 1] = ["magic"];
+static TARGETS: [&str; 2] = ["magic", "plim"];
 
 static LEVELS: [&str; 1] = ["0"];
 
@@ -48,16 +50,28 @@ pub fn read_compile(alloc: Global, words: &[String]) -> Result<Command, WordsFau
 /// The command that the matches of `compile` say.
 fn compile_of(matches: &ArgMatches) -> Command
     requires { HasCells matches.now }
-    ensures said { option_map compile_with (one_text (found_of matches.now) (codes "cells"))
-        ≡ Some result }
+    ensures said {
+        let target = target_of (first_value (found_of matches.now) (codes "target")) in
+        option_map (compile_with target) (one_text (found_of matches.now) (codes "cells"))
+            ≡ Some result }
     ensures within { IsWithin result }
 {
     match matches.get_one::<u32>("cells") {
         Some(cells) => Command::Compile {
-            target: TargetWord::Magic,
+            target: target_of(matches),
             level: LevelWord::Zero,
             cells,
         },
         None => unreachable!(),
+    }
+}
+
+/// What `--target` says: PLiM where its value is `plim`, and else MAGIC.
+fn target_of(matches: &ArgMatches) -> TargetWord
+    ensures { result ≡ target_of (first_value (found_of matches.now) (codes "target")) }
+{
+    match matches.get_str("target") {
+        Some(text) if text == "plim" => TargetWord::Plim,
+        _ => TargetWord::Magic,
     }
 }

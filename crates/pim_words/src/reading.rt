@@ -7,8 +7,10 @@ ghost use Rattle.pim_words.specs.Program.{lacks_program};
 ghost use Rattle.pim_words.specs.Reading.{IsWithin, command_said, is_usage, names_command};
 
 use crate::compiling::read_compile;
+use crate::converting::read_form;
+use crate::filling::read_fill;
+use crate::no_options::read_without_options;
 use crate::program::lacks_program;
-use crate::running::read_run;
 use crate::{Command, WordsFault};
 use std::alloc::Global;
 
@@ -39,12 +41,22 @@ pub fn read(alloc: Global, words: &[String]) -> Result<Command, WordsFault>
         return Err(WordsFault::Usage);
     };
     if lacks_program(words) {
-        Err(WordsFault::Usage)
-    } else if name.as_str() == "compile" {
-        read_compile(alloc, words)
-    } else if name.as_str() == "run" {
-        read_run(alloc, rest)
-    } else {
-        Err(WordsFault::Usage)
+        return Err(WordsFault::Usage);
+    }
+    match name.as_str() {
+        "compile" => read_compile(alloc, words),
+        "run" => Ok(Command::Run {
+            fill: read_fill(alloc, "run", rest)?,
+        }),
+        "list" => read_without_options(alloc, "list", rest, Command::List),
+        "explain" => read_without_options(alloc, "explain", rest, Command::Explain),
+        "asm" => read_without_options(alloc, "asm", words, Command::Asm),
+        "debug" => Ok(Command::Debug {
+            fill: read_fill(alloc, "debug", rest)?,
+        }),
+        "convert" => Ok(Command::Convert {
+            form: read_form(alloc, words)?,
+        }),
+        _ => Err(WordsFault::Usage),
     }
 }

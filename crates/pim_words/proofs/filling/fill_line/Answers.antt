@@ -4,9 +4,9 @@ use Rattle.clap.specs.Words.{App, app_of, with_rule}
 use Rattle.clap.specs.declared.builder.value_parser.ValueParser.TheVariants as vp
 use Rattle.pim_words.specs.Lines.{fill_by, fill_line, option_of}
 use Rattle.pim_words.specs.Reading.{ReadsAlike}
-use Rattle.pim_words.proofs.FillLine.{fill_alike}
+use Rattle.pim_words.proofs.ChoiceLines.{fill_alike}
 use Rattle.pim_words.proofs.OptionRules.{with_default}
-use Rattle.pim_words.proofs.running.fill_line.Goals as goal
+use Rattle.pim_words.proofs.filling.fill_line.Goals as goal
 
 pub returns : goal.returns
 returns c =

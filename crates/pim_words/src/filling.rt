@@ -1,12 +1,12 @@
-//! The words of `run`: `FILE [--fill zeros|ones]`, where the file is no word of the command line.
+//! The words of a command whose one option is `--fill`: `[--fill zeros|ones]`.
 ghost use Rattle.std.specs.Prelude.{◌≡◌, IfOk, OnOk, false, map, true, codes};
 ghost use Rattle.std.specs.String.{string_bytes};
-ghost use Rattle.clap.specs.Words.{app_of, first_value, found_of, matches_of};
+ghost use Rattle.clap.specs.Words.{app_of, first_of, first_value, found_of, matches_of};
 ghost use Rattle.pim_words.specs.Lines.{fill_line};
-ghost use Rattle.pim_words.specs.Reading.{IsWithin, ReadsAlike, fill_of, refuses, run_said};
+ghost use Rattle.pim_words.specs.Reading.{ReadsAlike, fill_of, refuses};
 
 use crate::options::choice_of;
-use crate::{Command, FillWord, WordsFault};
+use crate::{FillWord, WordsFault};
 use clap::ArgMatches;
 use std::alloc::{AllocError, Global};
 
@@ -20,21 +20,20 @@ fn fill_line<'a>(alloc: Global, name: &'a str) -> Result<clap::Command<'a>, Allo
     clap::Command::new(alloc, name).arg(fill)
 }
 
-/// Reads the words of `run` from its file on. The first of them is passed over, as the name of a
-/// command is.
-pub fn read_run(alloc: Global, words: &[String]) -> Result<Command, WordsFault>
+/// Reads the words of a command of this name, whose one option is `--fill`. The first of them is
+/// passed over: it is the name, or the file where the command takes one.
+pub fn read_fill(alloc: Global, name: &str, words: &[String]) -> Result<FillWord, WordsFault>
     ensures usage { result ≡ Err WordsFault.Usage
-        → refuses (map string_bytes words.now) (fill_line (codes "run")) ≡ true }
+        → refuses (map string_bytes words.now) (fill_line name.now) ≡ true }
     ensures accepted { OnOk result
-        (refuses (map string_bytes words.now) (fill_line (codes "run")) ≡ false) }
-    ensures value { IfOk result (λ c.
-        run_said (matches_of (fill_line (codes "run")) (map string_bytes words.now)) ≡ Some c) }
-    ensures within { IfOk result IsWithin }
+        (refuses (map string_bytes words.now) (fill_line name.now) ≡ false) }
+    ensures value { IfOk result (λ fill. fill
+        ≡ fill_of (first_of (codes "fill")
+            (matches_of (fill_line name.now) (map string_bytes words.now)))) }
 {
-    let line = fill_line(alloc, "run")?;
+    let line = fill_line(alloc, name)?;
     let matches = line.try_get_matches_from(words)?;
-    let fill = fill_of(&matches);
-    Ok(Command::Run { fill })
+    Ok(fill_of(&matches))
 }
 
 /// What `--fill` says: ones where its value is `ones`, and else zeros.
