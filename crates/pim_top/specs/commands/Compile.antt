@@ -27,6 +27,7 @@ use Rattle.pim_io.specs.declared.limits.TheConstants.{MAX_INPUT}
 -- the machine that a word of `--target` names
 abbrev pub target_of : TargetWord → Target
 target_of targets.Magic = machines.Magic
+target_of targets.Plim = machines.Magic
 
 -- the effort that a word of `--level` names
 abbrev pub level_of : LevelWord → Level
@@ -35,6 +36,7 @@ level_of levels.Zero = efforts.Zero
 -- the same machine, as a program file names it
 abbrev pub machine_of : TargetWord → Machine
 machine_of targets.Magic = isa.Magic
+machine_of targets.Plim = isa.Magic
 
 -- the budget is enough for the netlist, and its flat graph is within the limit
 abbrev pub IsEnough : TargetWord → LevelWord → ℕ → NetView → Type 0

@@ -77,6 +77,7 @@ fn target_of(word: TargetWord) -> Target
 {
     match word {
         TargetWord::Magic => Target::Magic,
+        TargetWord::Plim => Target::Magic,
     }
 }
 

@@ -27,15 +27,19 @@ uncompiled targets.Magic levels.Zero budget bytes (compiler.TooFewCells needed) 
 uncompiled targets.Magic levels.Zero budget bytes compiler.TooLarge fine h =
     let e = fine.enough h.net h.checked (let a = h.is_net in let b = fine.is_net in cc) in
     absurd (let r = h.right.0 in let z : ⊥ = omega (arith, e.few, r) in z)
+uncompiled targets.Plim levels.Zero budget bytes (compiler.TooFewCells needed) fine h =
+    let e = fine.enough h.net h.checked (let a = h.is_net in let b = fine.is_net in cc) in
+    let short = h.right.0 in
+    absurd (let z : ⊥ = omega (arith, e.enough, short.is, short.below) in z)
+uncompiled targets.Plim levels.Zero budget bytes compiler.TooLarge fine h =
+    let e = fine.enough h.net h.checked (let a = h.is_net in let b = fine.is_net in cc) in
+    absurd (let r = h.right.0 in let z : ⊥ = omega (arith, e.few, r) in z)
 uncompiled target level budget bytes compiler.NoMemory fine h = refl
 
 judged : (target : TargetWord) (level : LevelWord) (budget : ℕ) (bytes : List ℕ) (j : Judgement) → CompilesFine target level budget bytes → CompileAnswers target level budget bytes (Err j) → IsFineStatus (judgement_status j)
 judged target level budget bytes (judgement.Netlist fault) fine h = absurd (let a = fine.is_net in let z : ⊥ = cc in z)
 judged target level budget bytes (judgement.Compile r) fine h = uncompiled target level budget bytes r fine h
-judged target level budget bytes (judgement.File f) fine h = absurd h
-judged target level budget bytes (judgement.Vector n) fine h = absurd h
-judged target level budget bytes judgement.TooManyLines fine h = absurd h
-judged target level budget bytes judgement.NoMemory fine h = absurd h
+judged target level budget bytes j fine h = absurd h
 
 pub compile-fine : (target : TargetWord) (level : LevelWord) (budget : ℕ) (file bytes : List ℕ) → CompilesFine target level budget bytes → IsFaultless (commands.Compile target level budget) file bytes
 compile-fine target level budget file bytes fine = record {
