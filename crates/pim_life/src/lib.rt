@@ -4,6 +4,10 @@
 mod explanation;
 mod life;
 mod lifetimes;
+#[cfg(test)]
+mod tests;
+mod track;
+mod tracks;
 
 pub use explanation::explain;
 pub use life::{End, Life, Start};

@@ -26,8 +26,8 @@ use Rattle.clap.specs.declared.parser.matches.ArgMatches.{ArgMatches}
 use Rattle.clap.proofs.CallerLemmas.{added_plain}
 use Rattle.clap.proofs.CallerReads.{required_reads}
 use Rattle.pim_words.specs.Lines.{compile_by, compile_line, one_of_names, option_of, required, with_default_text}
-use Rattle.pim_words.specs.Matches.{HasCells}
-use Rattle.pim_words.specs.Options.{HasRule}
+use Rattle.pim_words.specs.inner.Matches.{HasCells}
+use Rattle.pim_words.specs.inner.Options.{HasRule}
 use Rattle.pim_words.specs.Reading.{ReadsAlike}
 use Rattle.pim_words.proofs.Alike.{IsBareOf, reads_alike}
 

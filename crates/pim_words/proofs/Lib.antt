@@ -6,4 +6,5 @@ pub mod OptionRules
 pub mod Answered
 pub mod CompileLine
 pub mod ChoiceLines
+pub mod Named
 pub mod PlainWords

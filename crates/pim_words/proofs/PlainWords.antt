@@ -102,7 +102,12 @@ signed_from (d ∷ ds) numeral small =
       subst (λ z. z ≤ℤ pos 1048576) (sym value) (omega (arith, ints)),
     )
 
-number_taken : (target : TargetWord) (text : Text) → IsNumeral 10 text → digits_value 10 text ≤ 1048576 → TakesBoth target text
+number_taken : (text : Text) → IsNumeral 10 text → digits_value 10 text ≤ 1048576 → cells_kinds text ≡ []
+number_taken text numeral small =
+    let parser = vp.Signed (pos 0) (pos 1048576) in
+    ap (λ b. if b then [] else refused_kind parser ∷ []) (Accepts-accepts false parser text (signed_from text numeral small))
+
+taken : (target : TargetWord) (text : Text) → IsNumeral 10 text → digits_value 10 text ≤ 1048576 → TakesBoth target text
 taken target [] numeral small = absurd (omega (arith, numeral.0))
 taken target (d ∷ ds) numeral small =
     let range = digit_from_value d numeral.1.0 in
@@ -113,9 +118,10 @@ compile_words_taken : (target : TargetWord) (n : ℕ) (rest : List Text) → n �
     → Takes target (compile_words target (decimal n) ++ rest) (decimal n) → IsTaken (commands.Compile target Zero n) (compile_words target (decimal n) ++ rest)
 compile_words_taken target n rest small takes =
     let number = decimal_is_IsNumeral n (omega arith) in
-    let same : number_of (decimal n) ≡ n = ap (digits_value 10) (no_plus (decimal n) number.0) ∙ number.1 in
-    (ap (λ k. not (is_empty k)) takes.fine,
-    ap₂ (λ t o. option_map (compile_with t) o) takes.target_is takes.cells_is ∙ ap (λ m. Some (commands.Compile target Zero m)) same)
+    let same : number_of (decimal n) ≡ n = ap (digits_value 10) (no_plus (decimal n) number.0) ∙ number.1 in (
+      ap (λ k. not (is_empty k)) takes.fine,
+      ap₂ (λ t o. option_map (compile_with t) o) takes.target_is takes.cells_is ∙ ap (λ m. Some (commands.Compile target Zero m)) same,
+    )
 
 -- ---- the commands without numbers
 

@@ -69,22 +69,28 @@ with_fill name command = record {
   said = λ rows. Some (command (fill_of (first_of (codes "fill") rows)));
 }
 
+-- `compile`
+abbrev pub compile_command : BuiltCommand
+compile_command = record { line = compile_line; said = compile_said }
+
+-- `convert`
+abbrev pub convert_command : BuiltCommand
+convert_command = record {
+  line = convert_line;
+  said = λ rows. Some (commands.Convert (form_of (first_of (codes "form") rows)));
+}
+
 -- the command of this name, where it is built
 abbrev pub cli : Text → Option BuiltCommand
 cli name =
-    if bytes_eq name (codes "compile") then Some (record {
-      line = compile_line;
-      said = compile_said;
-    })
+    if bytes_eq name (codes "compile") then Some compile_command
     else if bytes_eq name (codes "run") then Some (with_fill (codes "run") commands.Run)
     else if bytes_eq name (codes "list") then Some (without_options (codes "list") commands.List)
-    else if bytes_eq name (codes "explain") then Some (without_options (codes "explain") commands.Explain)
+    else if bytes_eq name (codes "explain") then Some
+    (without_options (codes "explain") commands.Explain)
     else if bytes_eq name (codes "asm") then Some (without_options (codes "asm") commands.Asm)
     else if bytes_eq name (codes "debug") then Some (with_fill (codes "debug") commands.Debug)
-    else if bytes_eq name (codes "convert") then Some (record {
-      line = convert_line;
-      said = λ rows. Some (commands.Convert (form_of (first_of (codes "form") rows)));
-    })
+    else if bytes_eq name (codes "convert") then Some convert_command
     else None
 
 -- there is no word, the command is not built, the file that it takes is missing, or its command

@@ -1,12 +1,13 @@
 //! The words of `convert`: `--form 1|2`.
-ghost use Rattle.std.specs.Prelude.{◌≡◌, IfOk, OnOk, false, map, true, codes};
+ghost use Rattle.std.specs.Prelude.{◌≡◌, IfOk, map, codes};
 ghost use Rattle.std.specs.String.{string_bytes};
-ghost use Rattle.clap.specs.Words.{app_of, first_of, first_value, found_of, matches_of};
+ghost use Rattle.clap.specs.Words.{app_of, first_value, found_of};
 ghost use Rattle.pim_words.specs.Lines.{convert_line};
-ghost use Rattle.pim_words.specs.Reading.{ReadsAlike, form_of, refuses};
+ghost use Rattle.pim_words.specs.Reading.{ReadsAlike, convert_command, form_of};
+ghost use Rattle.pim_words.specs.inner.Answer.{IsReading};
 
 use crate::options::choice_of;
-use crate::{FormWord, WordsFault};
+use crate::{Command, FormWord, WordsFault};
 use clap::ArgMatches;
 use std::alloc::{AllocError, Global};
 
@@ -20,19 +21,14 @@ fn convert_line<'a>(alloc: Global) -> Result<clap::Command<'a>, AllocError>
     clap::Command::new(alloc, "convert").arg(form)
 }
 
-/// Reads the words of `convert`, the name among them: the form that is asked for.
-pub fn read_form(alloc: Global, words: &[String]) -> Result<FormWord, WordsFault>
-    ensures usage { result ≡ Err WordsFault.Usage
-        → refuses (map string_bytes words.now) convert_line ≡ true }
-    ensures accepted { OnOk result
-        (refuses (map string_bytes words.now) convert_line ≡ false) }
-    ensures value { IfOk result (λ form. form
-        ≡ form_of (first_of (codes "form")
-            (matches_of convert_line (map string_bytes words.now)))) }
+/// Reads the words of `convert`, the name among them.
+pub fn read_convert(alloc: Global, words: &[String]) -> Result<Command, WordsFault>
+    ensures { IsReading convert_command (map string_bytes words.now) result }
 {
     let line = convert_line(alloc)?;
     let matches = line.try_get_matches_from(words)?;
-    Ok(form_of(&matches))
+    let form = form_of(&matches);
+    Ok(Command::Convert { form })
 }
 
 /// What `--form` says: binary where its value is `2`, and else text.

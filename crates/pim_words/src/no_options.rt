@@ -1,8 +1,8 @@
 //! The words of a command without options.
-ghost use Rattle.std.specs.Prelude.{◌≡◌, IfOk, OnOk, false, map, true};
+ghost use Rattle.std.specs.Prelude.{map};
 ghost use Rattle.std.specs.String.{string_bytes};
-ghost use Rattle.clap.specs.Words.{new_app};
-ghost use Rattle.pim_words.specs.Reading.{refuses};
+ghost use Rattle.pim_words.specs.Reading.{IsWithin, without_options};
+ghost use Rattle.pim_words.specs.inner.Answer.{IsReading};
 
 use crate::{Command, WordsFault};
 use std::alloc::Global;
@@ -15,11 +15,8 @@ pub fn read_without_options(
     words: &[String],
     command: Command,
 ) -> Result<Command, WordsFault>
-    ensures usage { result ≡ Err WordsFault.Usage
-        → refuses (map string_bytes words.now) (new_app name.now) ≡ true }
-    ensures accepted { OnOk result
-        (refuses (map string_bytes words.now) (new_app name.now) ≡ false) }
-    ensures value { IfOk result (λ c. c ≡ command) }
+    requires { IsWithin command }
+    ensures { IsReading (without_options name.now command) (map string_bytes words.now) result }
 {
     let _matches = clap::Command::new(alloc, name).try_get_matches_from(words)?;
     Ok(command)

@@ -1,4 +1,4 @@
--- What `compile` reads of its matches.
+-- Inner: what `compile` reads of its matches.
 use Rattle.std.specs.Prelude.{◌≡◌, ◌≤◌, Some, codes}
 use Rattle.std.specs.Str.Parse.{IsNumeral, digits_value, without_leading_plus}
 use Rattle.clap.specs.Words.{found_of, one_text, Text}

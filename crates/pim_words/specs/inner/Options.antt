@@ -1,4 +1,4 @@
--- An option of a command line, as `clap` holds it.
+-- Inner: an option of a command line, as `clap` holds it.
 use Rattle.std.specs.Prelude.{◌≡◌, ◌≤◌, false, None}
 use Rattle.clap.specs.Facts.{least_values}
 use Rattle.clap.specs.Words.{IsPlainArg, Rule, rule_of}
