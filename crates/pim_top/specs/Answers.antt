@@ -5,7 +5,6 @@ use Rattle.pim_words.specs.declared.command.Command.{Command}
 use Rattle.pim_isa.specs.Programs.{ProgramView}
 use Rattle.pim_words.specs.declared.command.Command.TheVariants as commands
 use Rattle.pim_top.specs.Programs.{IsProgramFile, program_of}
-use Rattle.pim_top.specs.Statuses.{judgement_status}
 use Rattle.pim_top.specs.commands.Asm.{AssemblesFine, asm_of}
 use Rattle.pim_top.specs.commands.Compile.{CompileAnswers, CompilesFine}
 use Rattle.pim_top.specs.commands.Convert.{convert_of}
@@ -14,7 +13,6 @@ use Rattle.pim_top.specs.commands.Explain.{explain_of}
 use Rattle.pim_top.specs.commands.List.{list_of}
 use Rattle.pim_top.specs.commands.Run.{RunsFine, run_of}
 use Rattle.pim_top.specs.declared.judgement.Judgement.{Judgement}
-use Rattle.pim_top.specs.declared.status.Status.TheVariants.{NoMemory}
 
 -- the text that a command writes whole for the bytes of its program file and of its input, or why they are refused; a source
 -- that it doesn't read counts as empty, and a command that streams writes nothing whole
@@ -48,7 +46,3 @@ IsFine commands.Explain file input = IsProgramFile file
 IsFine commands.Asm file input = AssemblesFine input
 IsFine (commands.Debug fill) file input = DebugsFine fill file input
 IsFine (commands.Convert form) file input = IsProgramFile input
-
--- a judgement that memory ran out, which says nothing of the bytes
-abbrev pub IsWanting : Judgement → Type 0
-IsWanting j = judgement_status j ≡ NoMemory

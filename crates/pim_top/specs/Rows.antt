@@ -1,7 +1,7 @@
 -- How a command ends that executes each line of its input as a row.
 use Rattle.std.specs.Prelude.{◌≡◌, ◌⊎◌, ℕ, List, Result, Ok, Err}
 use Rattle.pim_batch.specs.Runners.{Runner}
-use Rattle.pim_top.specs.Answers.{IsWanting}
+use Rattle.pim_top.specs.Statuses.{IsWanting}
 use Rattle.pim_top.specs.Streams.{HasFailed, IsOverrun, IsRead, IsUntouched, Seen, Stream}
 use Rattle.pim_top.specs.Walks.{WalkEnds}
 use Rattle.pim_top.specs.declared.judgement.Judgement.{Judgement}

@@ -1,5 +1,5 @@
 -- Statuses, and what ends with each of them.
-use Rattle.std.specs.Prelude.{ℕ, Result, Ok, Err}
+use Rattle.std.specs.Prelude.{◌≡◌, ℕ, Result, Ok, Err}
 use Rattle.pim_aiger.specs.declared.fault.AigerFault.{AigerFault}
 use Rattle.pim_aiger.specs.declared.fault.AigerFault.TheVariants as aiger
 use Rattle.pim_asm.specs.declared.fault.AsmFault.{AsmFault}
@@ -82,6 +82,10 @@ judgement_status (judgement.Assembly fault) = asm_status fault
 judgement_status (judgement.Vector n) = status.BadInput
 judgement_status judgement.TooManyLines = status.TooLarge
 judgement_status judgement.NoMemory = status.NoMemory
+
+-- a judgement that memory ran out, which says nothing of the bytes
+abbrev pub IsWanting : Judgement → Type 0
+IsWanting j = judgement_status j ≡ status.NoMemory
 
 -- the status of a refusal
 abbrev pub refusal_status : Refusal → Status

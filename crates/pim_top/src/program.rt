@@ -1,6 +1,6 @@
 //! Programs that a command reads.
 ghost use Rattle.std.specs.Prelude.{◌≡◌, ◌⊎◌, ◌≤◌, Ok, Err, IfErr, IfOk, length};
-ghost use Rattle.pim_top.specs.Answers.{IsWanting};
+ghost use Rattle.pim_top.specs.Statuses.{IsWanting};
 ghost use Rattle.pim_top.specs.Programs.{program_of};
 ghost use Rattle.pim_top.specs.Rows.{IsLoaded, IsUnloaded};
 ghost use Rattle.pim_top.specs.Streams.{stream};

@@ -1,7 +1,7 @@
 //! `asm`: assembly becomes the text of a program.
 ghost use Rattle.std.specs.Prelude.{◌≡◌, ◌⊎◌, ◌≤◌, Ok, Err, IfErr, IfOk, length};
 ghost use Rattle.pim_words.specs.declared.command.Command.TheVariants as commands;
-ghost use Rattle.pim_top.specs.Answers.{IsWanting};
+ghost use Rattle.pim_top.specs.Statuses.{IsWanting};
 ghost use Rattle.pim_top.specs.Programs.{assembled};
 
 use crate::judgement::Judgement;
