@@ -1,14 +1,13 @@
 -- A netlist that `compile` takes is not refused.
-use Rattle.std.proofs.Common.{◌≡◌, ℕ, List, Err, refl, arith}
+use Rattle.std.proofs.Common.{◌≡◌, ◌⊎◌, ℕ, ◌<◌, ◌≤◌, List, Err, inl, inr, refl, arith}
+use Rattle.pim_compile.specs.Networks.{coarse_need, need}
 use Rattle.pim_compile.specs.declared.refusal.Refusal.{Refusal as Compiler}
 use Rattle.pim_compile.specs.declared.refusal.Refusal.TheVariants as compiler
 use Rattle.pim_words.specs.declared.command.Command.TheVariants as commands
 use Rattle.pim_words.specs.declared.command.LevelWord.{LevelWord}
 use Rattle.pim_words.specs.declared.command.TargetWord.{TargetWord}
-use Rattle.pim_words.specs.declared.command.LevelWord.TheVariants as levels
-use Rattle.pim_words.specs.declared.command.TargetWord.TheVariants as targets
 use Rattle.pim_top.specs.Statuses.{compiler_status, judgement_status}
-use Rattle.pim_top.specs.commands.Compile.{CompileAnswers, CompilesFine, IsUncompiled}
+use Rattle.pim_top.specs.commands.Compile.{CompileAnswers, CompilesFine, IsUncompiled, machine_of}
 use Rattle.pim_top.specs.declared.judgement.Judgement.{Judgement}
 use Rattle.pim_top.specs.declared.judgement.Judgement.TheVariants as judgement
 use Rattle.pim_top.specs.declared.status.Status.{Status}
@@ -19,19 +18,16 @@ use Rattle.pim_top.specs.inner.Faultless.{IsFaultless}
 abbrev IsFineStatus : Status → Type 0
 IsFineStatus s = s ≡ status.NoMemory
 
-uncompiled : (target : TargetWord) (level : LevelWord) (budget : ℕ) (bytes : List ℕ) (r : Compiler) → CompilesFine target level budget bytes → IsUncompiled target level budget bytes r → IsFineStatus (compiler_status r)
-uncompiled targets.Magic levels.Zero budget bytes (compiler.TooFewCells needed) fine h =
+-- a budget that is enough is not below the need, or not below the bound of it
+not_scarce : (told need coarse budget : ℕ) → (need ≤ budget) ⊎ (coarse ≤ budget) → told ≡ need → budget < told → budget < coarse → ⊥
+not_scarce told need coarse budget (inl room) is below bound = omega arith
+not_scarce told need coarse budget (inr room) is below bound = omega arith
+
+uncompiled : (target : TargetWord) (level : LevelWord) (budget : ℕ) (bytes : List ℕ) (r : Compiler) → CompilesFine target level budget bytes → IsUncompiled target budget bytes r → IsFineStatus (compiler_status r)
+uncompiled target level budget bytes (compiler.TooFewCells needed) fine h =
     let e = fine.enough h.net h.checked (let a = h.is_net in let b = fine.is_net in cc) in
-    let short = h.right.0 in
-    absurd (let z : ⊥ = omega (arith, e.enough, short.is, short.below) in z)
-uncompiled targets.Magic levels.Zero budget bytes compiler.TooLarge fine h =
-    let e = fine.enough h.net h.checked (let a = h.is_net in let b = fine.is_net in cc) in
-    absurd (let r = h.right.0 in let z : ⊥ = omega (arith, e.few, r) in z)
-uncompiled targets.Plim levels.Zero budget bytes (compiler.TooFewCells needed) fine h =
-    let e = fine.enough h.net h.checked (let a = h.is_net in let b = fine.is_net in cc) in
-    let short = h.right.0 in
-    absurd (let z : ⊥ = omega (arith, e.enough, short.is, short.below) in z)
-uncompiled targets.Plim levels.Zero budget bytes compiler.TooLarge fine h =
+    absurd (not_scarce needed (need h.net (machine_of target)) (coarse_need h.net (machine_of target)) budget e.room h.right.0.is h.right.0.below h.right.1)
+uncompiled target level budget bytes compiler.TooLarge fine h =
     let e = fine.enough h.net h.checked (let a = h.is_net in let b = fine.is_net in cc) in
     absurd (let r = h.right.0 in let z : ⊥ = omega (arith, e.few, r) in z)
 uncompiled target level budget bytes compiler.NoMemory fine h = refl
