@@ -8,6 +8,8 @@ use Rattle.pim_blif.specs.declared.fault.BlifFault.{BlifFault}
 use Rattle.pim_blif.specs.declared.fault.BlifFault.TheVariants as blif
 use Rattle.pim_compile.specs.declared.refusal.Refusal.{Refusal as Compiler}
 use Rattle.pim_compile.specs.declared.refusal.Refusal.TheVariants as compiler
+use Rattle.pim_debug.specs.declared.fault.DebugFault.{DebugFault}
+use Rattle.pim_debug.specs.declared.fault.DebugFault.TheVariants as debug
 use Rattle.pim_file.specs.declared.fault.FileFault.{FileFault}
 use Rattle.pim_file.specs.declared.fault.FileFault.TheVariants as file
 use Rattle.pim_net.specs.declared.fault.NetFault.{NetFault}
@@ -73,6 +75,11 @@ abbrev pub asm_status : AsmFault → Status
 asm_status asm.NoMemory = status.NoMemory
 asm_status fault = status.BadInput
 
+-- a command that is refused is a bad input
+abbrev pub debug_status : DebugFault → Status
+debug_status debug.NoMemory = status.NoMemory
+debug_status fault = status.BadInput
+
 -- the status of a judgement
 abbrev pub judgement_status : Judgement → Status
 judgement_status (judgement.Netlist fault) = netlist_status fault
@@ -80,6 +87,7 @@ judgement_status (judgement.Compile refusal) = compiler_status refusal
 judgement_status (judgement.File fault) = file_status fault
 judgement_status (judgement.Assembly fault) = asm_status fault
 judgement_status (judgement.Vector n) = status.BadInput
+judgement_status (judgement.Command n fault) = debug_status fault
 judgement_status judgement.TooManyLines = status.TooLarge
 judgement_status judgement.NoMemory = status.NoMemory
 

@@ -1,17 +1,35 @@
-//! `debug`: a program is executed step by step, as the lines of the input ask. A stub, which answers that memory ran out.
+//! `debug`: a program is executed forward and back, as the lines of the input ask.
+ghost use Rattle.std.specs.Prelude.{◌≡◌, ◌+◌, ◌≤◌, ℕ, List, Option, None, Some, true, IfErr, IfOk, OnOk, OnErr};
+ghost use Rattle.pim_io.specs.Bits.{bits_of};
+ghost use Rattle.pim_io.specs.Outside.{Told, TookAll, Wrote};
+ghost use Rattle.pim_isa.specs.declared.target.Fill.{Fill};
 ghost use Rattle.pim_words.specs.declared.command.Command.TheVariants as commands;
+ghost use Rattle.pim_top.specs.Debugging.{DebuggedAll, digits_of, longest_of, reply_line};
 ghost use Rattle.pim_top.specs.Streams.{seen, stream};
 ghost use Rattle.pim_top.specs.commands.Debug.{DebugEnds};
 ghost use Rattle.pim_top.specs.inner.Faultless.{IsComplete};
+ghost use Rattle.pim_top.specs.inner.Sessions.{DebugStops, DebugsOn, IsDebugging, IsOfDebug, IsOfInput, IsUnwrittenReply};
+ghost use Rattle.pim_top.specs.inner.Standing.{IsFurther, first_line};
 
-use crate::refusal::Refusal;
-use pim_io::{Sink, Source};
+use crate::commands::run::fill_of;
+use crate::judgement::Judgement;
+use crate::program::load_program;
+use crate::refusal::{Origin, Refusal};
+use itoa::Buffer;
+use pim_debug::{DebugFault, Reply, Session};
+use pim_io::{NoMemory, Sink, Source, write_all};
+use pim_isa::{Fill, Program};
+use pim_vectors::{Lines, LinesFault, vector_fits};
 use pim_words::FillWord;
 use std::alloc::Global;
 
-/// Reads a program to its end, and obeys each line of the input.
+/// The longest line has as many bytes as there are inputs, and so many at least.
+const LINE: u32 = 64;
+
+/// Reads a program to its end, and obeys each line of the input: the first is the vector of the inputs, with `fill` in all other
+/// cells, and each further one a command. Each reply is written before the next line is read.
 pub fn debug<P: Source, S: Source, K: Sink>(
-    _alloc: Global,
+    alloc: Global,
     fill: FillWord,
     program: &mut P,
     input: &mut S,
@@ -22,9 +40,97 @@ pub fn debug<P: Source, S: Source, K: Sink>(
     ensures complete { IsComplete (commands.Debug fill) (seen (stream P.left P.faults program.old program.new)
         (stream S.left S.faults input.old input.new) (stream K.taken K.faults output.old output.new)) result }
 {
-    let _ = fill;
-    let _ = program;
-    let _ = input;
-    let _ = output;
+    obey(alloc, fill, program, input, output)
+}
+
+/// The same, by what the sources give.
+fn obey<P: Source, S: Source, K: Sink>(
+    alloc: Global,
+    fill: FillWord,
+    program: &mut P,
+    input: &mut S,
+    output: &mut K,
+) -> Result<(), Refusal>
+    ensures { DebugEnds fill (seen (stream P.left P.faults program.old program.new)
+        (stream S.left S.faults input.old input.new) (stream K.taken K.faults output.old output.new)) result }
+{
+    let program = load_program(alloc, program)?;
+    let longest = (program.inputs().len() as u32).max(LINE);
+    let mut lines = Lines::new(alloc, longest)?;
+    let mut session = begin(alloc, &program, fill_of(fill), &mut lines, input)?;
+    obey_lines(alloc, &mut session, &mut lines, input, output)
+}
+
+/// The session of the vector in the first line.
+fn begin<'a, S: Source>(
+    alloc: Global,
+    program: &'a Program,
+    fill: Fill,
+    lines: &mut Lines,
+    input: &mut S,
+) -> Result<Session<'a>, Refusal>
+    requires { lines.old ≡ first_line (longest_of program.now) }
+    ensures begun { IfOk result (λ session. Told (S.left input.old) (S.left input.new) (λ left rest. (now : Option (List ℕ)) →
+        IsDebugging program.now fill left rest now now lines.new (Some session))) }
+    ensures refused { IfErr result (λ r. Told (S.left input.old) (S.left input.new) (λ left rest. (now : Option (List ℕ)) →
+        DebugStops program.now fill left rest now now r)) }
+    ensures program { IfOk result (λ session. session.program ≡ program.now) }
+    ensures longest { lines.new.longest ≡ lines.old.longest }
+    ensures steady { OnOk result (S.faults input.new ≡ S.faults input.old) }
+    ensures kinds { IfErr result (IsOfInput (S.faults input.old) (S.faults input.new)) }
+{
+    match lines.next(input) {
+        Ok(None) => Err(Refusal::Judged(Judgement::Vector(1))),
+        Ok(Some(line)) => {
+            if !vector_fits(line, program.inputs().len() as u32) {
+                return Err(Refusal::Judged(Judgement::Vector(1)));
+            }
+            let vector = bits_of(alloc, line)?;
+            Ok(Session::new(alloc, program, &vector, fill)?)
+        }
+        Err(LinesFault::Fault) => Err(Refusal::ReadFault(Origin::Input)),
+        Err(LinesFault::Long(line)) => Err(Refusal::Judged(Judgement::Vector(line))),
+        Err(LinesFault::TooMany) => Err(Refusal::Judged(Judgement::TooManyLines)),
+        Err(LinesFault::TooLong) => Err(Refusal::TooLong(Origin::Input)),
+    }
+}
+
+/// The bits of a line of characters.
+fn bits_of(alloc: Global, line: &[u8]) -> Result<Vec<bool>, NoMemory>
+    ensures { IfOk result (λ bits. bits.items ≡ bits_of line.now) }
+{
+    let mut bits = Vec::new(alloc);
+    for digit in line {
+        bits.push(*digit == b'1')?;
+    }
+    Ok(bits)
+}
+
+/// Obeys each further line.
+fn obey_lines<S: Source, K: Sink>(
+    alloc: Global,
+    session: &mut Session,
+    lines: &mut Lines,
+    input: &mut S,
+    output: &mut K,
+) -> Result<(), Refusal>
+    requires { lines.old.longest ≡ longest_of session.old.program }
+    ensures done { OnOk result (Told (S.left input.old) (S.left input.new) (λ left rest. (fill : Fill) (bytes : List ℕ) (before : Option (List ℕ)) →
+        IsDebugging session.old.program fill bytes left before (K.taken output.old) lines.old (Some session.old) →
+        DebuggedAll session.old.program fill bytes before (K.taken output.new) None)) }
+    ensures refused { IfErr result (λ r. Told (S.left input.old) (S.left input.new) (λ left rest. (fill : Fill) (bytes : List ℕ) (before : Option (List ℕ)) →
+        IsDebugging session.old.program fill bytes left before (K.taken output.old) lines.old (Some session.old) →
+        DebugStops session.old.program fill bytes rest before (K.taken output.new) r)) }
+    ensures input_steady { OnOk result (S.faults input.new ≡ S.faults input.old) }
+    ensures output_steady { OnOk result (K.faults output.new ≡ K.faults output.old) }
+    ensures kinds { IfErr result (IsOfDebug (S.faults input.old) (S.faults input.new) (K.faults output.old) (K.faults output.new)) }
+{
     Err(Refusal::NoMemory)
+}
+
+/// The line of a reply.
+fn text_of(alloc: Global, reply: &Reply) -> Result<Vec<u8>, NoMemory>
+    ensures { IfOk result (λ text. text.items ≡ reply_line reply.now) }
+{
+    Err(NoMemory)
 }
