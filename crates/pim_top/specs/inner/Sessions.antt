@@ -1,12 +1,18 @@
 -- Inner: where the obeying of a debugger's lines stands, and how it goes on.
 use Rattle.std.specs.Prelude.{◌≡◌, ◌⊎◌, ℕ, ◌≤◌, Bool, true, false, List, [], ◌++◌, length, Option, None, Some}
 use Rattle.pim_debug.specs.States.{SessionView}
+use Rattle.pim_debug.specs.declared.fault.DebugFault.{DebugFault}
+use Rattle.pim_debug.specs.declared.fault.DebugFault.TheVariants as debug
+use Rattle.pim_debug.specs.declared.reply.Reply.{Reply}
+use Rattle.pim_debug.specs.declared.reply.Reply.TheVariants as reply
 use Rattle.pim_io.specs.Outside.{Rose, TookAll, TookFirst}
 use Rattle.pim_io.specs.declared.limits.TheConstants.{MAX_INPUT}
 use Rattle.pim_isa.specs.Programs.{ProgramView}
 use Rattle.pim_isa.specs.declared.target.Fill.{Fill}
 use Rattle.pim_vectors.specs.Lines.{lines}
 use Rattle.pim_vectors.specs.Next.{LinesView}
+use Rattle.pim_vectors.specs.declared.fault.LinesFault.{LinesFault}
+use Rattle.pim_vectors.specs.declared.fault.LinesFault.TheVariants as fault
 use Rattle.pim_top.specs.Debugging.{DebuggedAll, DebuggedFront, DebuggedPart, DebuggedShort, Runs, longest_of}
 use Rattle.pim_top.specs.Judged.{last_piece}
 use Rattle.pim_top.specs.declared.judgement.Judgement.TheVariants as judgement
@@ -50,7 +56,7 @@ IsOfInput before now (refusal.ReadFault origin.Input) = Rose before now
 IsOfInput before now (refusal.TooLong origin.Input) = now ≡ before
 IsOfInput before now (refusal.Judged (judgement.Vector n)) = now ≡ before
 IsOfInput before now (refusal.Judged judgement.TooManyLines) = now ≡ before
-IsOfInput before now (refusal.Judged (judgement.Command n fault)) = now ≡ before
+IsOfInput before now (refusal.Judged (judgement.Command n f)) = now ≡ before
 IsOfInput before now r = ⊥
 
 -- the same, or of the output, by its count too
@@ -63,3 +69,26 @@ abbrev pub IsUnwrittenReply : List ℕ → Option (List ℕ) → Option (List �
 IsUnwrittenReply text before now out out_now refusal.NoMemory = (now ≡ before) × (out_now ≡ out)
 IsUnwrittenReply text before now out out_now refusal.WriteFault = TookFirst before now text × Rose out out_now
 IsUnwrittenReply text before now out out_now r = ⊥
+
+-- a reply that ends the session
+abbrev pub is_quit : Reply → Bool
+is_quit reply.Nothing = false
+is_quit (reply.At k) = false
+is_quit (reply.Break n k) = false
+is_quit (reply.Deleted n) = false
+is_quit (reply.Cell c b) = false
+is_quit (reply.Show bits) = false
+is_quit reply.Quit = true
+
+-- the refusal that a command's fault comes to, by its line
+abbrev pub command_refusal : ℕ → DebugFault → Refusal
+command_refusal n debug.NoMemory = refusal.NoMemory
+command_refusal n fault = refusal.Judged (judgement.Command n fault)
+
+-- the refusal that lines come to: a line that is too long is no vector, and later no command
+abbrev pub debug_refusal : Option SessionView → LinesFault → Refusal
+debug_refusal session fault.Fault = refusal.ReadFault origin.Input
+debug_refusal None (fault.Long n) = refusal.Judged (judgement.Vector n)
+debug_refusal (Some session) (fault.Long n) = refusal.Judged (judgement.Command n debug.BadCommand)
+debug_refusal session fault.TooMany = refusal.Judged judgement.TooManyLines
+debug_refusal session fault.TooLong = refusal.TooLong origin.Input

@@ -1,14 +1,15 @@
 //! `debug`: a program is executed forward and back, as the lines of the input ask.
 ghost use Rattle.std.specs.Prelude.{◌≡◌, ◌+◌, ◌≤◌, ℕ, List, Option, None, Some, true, IfErr, IfOk, OnOk, OnErr};
 ghost use Rattle.pim_io.specs.Bits.{bits_of};
-ghost use Rattle.pim_io.specs.Outside.{Told, TookAll, Wrote};
+ghost use Rattle.pim_io.specs.Outside.{Told, TookAll};
 ghost use Rattle.pim_isa.specs.declared.target.Fill.{Fill};
 ghost use Rattle.pim_words.specs.declared.command.Command.TheVariants as commands;
-ghost use Rattle.pim_top.specs.Debugging.{DebuggedAll, digits_of, longest_of, reply_line};
+ghost use Rattle.pim_debug.specs.States.{SessionView};
+ghost use Rattle.pim_top.specs.Debugging.{DebuggedAll, digit_of, longest_of, reply_line};
 ghost use Rattle.pim_top.specs.Streams.{seen, stream};
 ghost use Rattle.pim_top.specs.commands.Debug.{DebugEnds};
 ghost use Rattle.pim_top.specs.inner.Faultless.{IsComplete};
-ghost use Rattle.pim_top.specs.inner.Sessions.{DebugStops, DebugsOn, IsDebugging, IsOfDebug, IsOfInput, IsUnwrittenReply};
+ghost use Rattle.pim_top.specs.inner.Sessions.{DebugStops, DebugsOn, IsDebugging, IsOfDebug, IsOfInput, IsUnwrittenReply, command_refusal, debug_refusal, is_quit};
 ghost use Rattle.pim_top.specs.inner.Standing.{IsFurther, first_line};
 
 use crate::commands::run::fill_of;
@@ -125,12 +126,130 @@ fn obey_lines<S: Source, K: Sink>(
     ensures output_steady { OnOk result (K.faults output.new ≡ K.faults output.old) }
     ensures kinds { IfErr result (IsOfDebug (S.faults input.old) (S.faults input.new) (K.faults output.old) (K.faults output.new)) }
 {
-    Err(Refusal::NoMemory)
+    let mut more = true;
+    while more {
+        more = obey_line(alloc, session, lines, input, output)?;
+    }
+    Ok(())
+}
+
+/// Obeys the next line and writes its reply. Says whether there may be more lines.
+fn obey_line<S: Source, K: Sink>(
+    alloc: Global,
+    session: &mut Session,
+    lines: &mut Lines,
+    input: &mut S,
+    output: &mut K,
+) -> Result<bool, Refusal>
+    requires { lines.old.longest ≡ longest_of session.old.program }
+    ensures goes { IfOk result (λ more. Told (S.left input.old) (S.left input.new) (λ left rest. (fill : Fill) (bytes : List ℕ) (before : Option (List ℕ)) →
+        IsDebugging session.old.program fill bytes left before (K.taken output.old) lines.old (Some session.old) →
+        DebugsOn more session.old.program fill bytes rest before (K.taken output.new) lines.new (Some session.new))) }
+    ensures refused { IfErr result (λ r. Told (S.left input.old) (S.left input.new) (λ left rest. (fill : Fill) (bytes : List ℕ) (before : Option (List ℕ)) →
+        IsDebugging session.old.program fill bytes left before (K.taken output.old) lines.old (Some session.old) →
+        DebugStops session.old.program fill bytes rest before (K.taken output.new) r)) }
+    ensures program { session.new.program ≡ session.old.program }
+    ensures longest { lines.new.longest ≡ lines.old.longest }
+    ensures further { IfOk result (λ more. more ≡ true → IsFurther lines.old lines.new) }
+    ensures input_steady { OnOk result (S.faults input.new ≡ S.faults input.old) }
+    ensures output_steady { OnOk result (K.faults output.new ≡ K.faults output.old) }
+    ensures kinds { IfErr result (IsOfDebug (S.faults input.old) (S.faults input.new) (K.faults output.old) (K.faults output.new)) }
+{
+    let number = lines.given() + 1;
+    match lines.next(input) {
+        Ok(None) => Ok(false),
+        Ok(Some(line)) => match session.command(line) {
+            Ok(reply) => {
+                write_reply(alloc, output, &reply)?;
+                Ok(!is_quit(&reply))
+            }
+            Err(fault) => Err(of_command(number, fault)),
+        },
+        Err(fault) => Err(of_lines(fault)),
+    }
+}
+
+/// The refusal that a command's fault comes to, by its line.
+fn of_command(line: u32, fault: DebugFault) -> Refusal
+    ensures { result ≡ command_refusal line fault }
+{
+    match fault {
+        DebugFault::NoMemory => Refusal::NoMemory,
+        fault => Refusal::Judged(Judgement::Command(line, fault)),
+    }
+}
+
+/// The refusal that lines behind the first come to.
+fn of_lines(fault: LinesFault) -> Refusal
+    ensures { (session : SessionView) → result ≡ debug_refusal (Some session) fault }
+{
+    match fault {
+        LinesFault::Fault => Refusal::ReadFault(Origin::Input),
+        LinesFault::Long(line) => Refusal::Judged(Judgement::Command(line, DebugFault::BadCommand)),
+        LinesFault::TooMany => Refusal::Judged(Judgement::TooManyLines),
+        LinesFault::TooLong => Refusal::TooLong(Origin::Input),
+    }
+}
+
+/// Whether a reply ends the session.
+fn is_quit(reply: &Reply) -> bool
+    ensures { result ≡ is_quit reply.now }
+{
+    matches!(reply, Reply::Quit)
+}
+
+/// Writes the line of a reply, by one piece.
+fn write_reply<K: Sink>(alloc: Global, output: &mut K, reply: &Reply) -> Result<(), Refusal>
+    ensures done { OnOk result (TookAll (K.taken output.old) (K.taken output.new) (reply_line reply.now)) }
+    ensures steady { OnOk result (K.faults output.new ≡ K.faults output.old) }
+    ensures refused { IfErr result (IsUnwrittenReply (reply_line reply.now) (K.taken output.old) (K.taken output.new) (K.faults output.old) (K.faults output.new)) }
+{
+    let text = text_of(alloc, reply)?;
+    write_all(output, &text)?;
+    Ok(())
 }
 
 /// The line of a reply.
 fn text_of(alloc: Global, reply: &Reply) -> Result<Vec<u8>, NoMemory>
     ensures { IfOk result (λ text. text.items ≡ reply_line reply.now) }
 {
-    Err(NoMemory)
+    let mut text = Vec::new(alloc);
+    let mut digits = Buffer::new();
+    match reply {
+        Reply::Nothing | Reply::Quit => return Ok(text),
+        Reply::At(at) => {
+            text.extend_from_slice(b"at ")?;
+            text.extend_from_slice(digits.format(*at).as_bytes())?;
+        }
+        Reply::Break { number, at } => {
+            text.extend_from_slice(b"break ")?;
+            text.extend_from_slice(digits.format(*number).as_bytes())?;
+            text.extend_from_slice(b" at ")?;
+            text.extend_from_slice(digits.format(*at).as_bytes())?;
+        }
+        Reply::Deleted(number) => {
+            text.extend_from_slice(b"deleted ")?;
+            text.extend_from_slice(digits.format(*number).as_bytes())?;
+        }
+        Reply::Cell(cell, bit) => {
+            text.extend_from_slice(b"cell ")?;
+            text.extend_from_slice(digits.format(*cell).as_bytes())?;
+            text.extend_from_slice(b" ")?;
+            text.push(digit_of(*bit))?;
+        }
+        Reply::Show(bits) => {
+            for bit in bits.list() {
+                text.push(digit_of(*bit))?;
+            }
+        }
+    }
+    text.push(b'\n')?;
+    Ok(text)
+}
+
+/// A bit as a character.
+fn digit_of(bit: bool) -> u8
+    ensures { result ≡ digit_of bit }
+{
+    if bit { b'1' } else { b'0' }
 }
