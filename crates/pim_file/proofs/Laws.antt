@@ -113,7 +113,7 @@ parse1_of-kept bytes = ap (λ (x : Result ProgramView FileFault). x >>= validate
 
 -- nothing but its text is read as a program
 
-fault_cases : (fault : Option Invalid) (d p : ProgramView) → with_fault d fault ≡ Ok p → d ≡ p
+pub fault_cases : (fault : Option Invalid) (d p : ProgramView) → with_fault d fault ≡ Ok p → d ≡ p
 fault_cases None d p e = ok_is d p e
 fault_cases (Some invalid) d p e = absurd cc
 
@@ -128,15 +128,15 @@ module _ (one : OneLine) where
 
 -- the text of a program is read as it
 
-all_weaker : {X : Type 0} (P Q : X → Type 0) (xs : List X) → ((x : X) → P x → Q x) → AllByRecursion P xs → AllByRecursion Q xs
+pub all_weaker : {X : Type 0} (P Q : X → Type 0) (xs : List X) → ((x : X) → P x → Q x) → AllByRecursion P xs → AllByRecursion Q xs
 all_weaker P Q [] f h = tt
 all_weaker P Q (x ∷ xs) f h = (f x h.0, all_weaker P Q xs f h.1)
 
-all_front : (P : ℕ → Type 0) (xs ys : List ℕ) → AllByRecursion P (xs ++ ys) → AllByRecursion P xs
+pub all_front : (P : ℕ → Type 0) (xs ys : List ℕ) → AllByRecursion P (xs ++ ys) → AllByRecursion P xs
 all_front P [] ys h = tt
 all_front P (x ∷ xs) ys h = (h.0, all_front P xs ys h.1)
 
-all_back : (P : ℕ → Type 0) (xs ys : List ℕ) → AllByRecursion P (xs ++ ys) → AllByRecursion P ys
+pub all_back : (P : ℕ → Type 0) (xs ys : List ℕ) → AllByRecursion P (xs ++ ys) → AllByRecursion P ys
 all_back P [] ys h = h
 all_back P (x ∷ xs) ys h = all_back P xs ys h.1
 
@@ -154,7 +154,7 @@ valid_line : (target : Target) (cells : ℕ) (i : Instr) → cells ≤ MAX_CELLS
 valid_line target cells i small h =
     line_from_names i (all_weaker (λ c. c < cells) (λ n. n < 2 ^ 32) (names i) (λ c below. omega arith) (recursion_from_All (λ c. c < cells) (names i) h.within))
 
-port_lines : (cells : ℕ) (ports : List Port) → cells ≤ MAX_CELLS → AllByRecursion (λ c. c < cells) (cells_of ports) → AllByRecursion HasLabel ports → AllByRecursion HasPortLine ports
+pub port_lines : (cells : ℕ) (ports : List Port) → cells ≤ MAX_CELLS → AllByRecursion (λ c. c < cells) (cells_of ports) → AllByRecursion HasLabel ports → AllByRecursion HasPortLine ports
 port_lines cells [] small h k = tt
 port_lines cells (p ∷ ports) small h k = (record { cell = omega arith; label = k.0 }, port_lines cells ports small h.1 k.1)
 

@@ -4,6 +4,8 @@ pub mod ItemLemmas
 pub mod ManyLemmas
 pub mod BinaryLemmas
 pub mod KeptLemmas
+pub mod FormLaws
+pub mod CutLemmas
 pub mod Laws
 pub mod LimitLemmas
 pub mod OneText
