@@ -1,11 +1,12 @@
 -- The laws of both forms: each spelling of a program is read as it, and no other bytes are.
-use Rattle.std.proofs.Common.{◌≡◌, ℕ, ◌+◌, ◌^◌, ◌<◌, ◌≤◌, ◌⊎◌, inl, inr, Bool, true, false, cond, ltb, List, [], ◌∷◌, length, Result, Ok, refl, ap, sym, ◌∙◌, subst, arith}
+use Rattle.std.proofs.Common.{◌≡◌, ℕ, ◌+◌, ◌^◌, ◌<◌, ◌≤◌, ◌⊎◌, inl, inr, Bool, true, false, cond, ltb, List, [], ◌∷◌, ◌++◌, length, Result, Ok, refl, ap, sym, ◌∙◌, subst, arith}
 use Rattle.std.specs.Prelude.{◌↔◌}
 use Rattle.std.specs.List.{AllByRecursion}
 use Rattle.std.proofs.lemmas.Bool.{le-ltb, ltb-true, and_parts}
 use Rattle.std.proofs.lemmas.List.Elements.{recursion_from_All}
 use Rattle.pim_io.specs.Readings.{◌>>=◌, Gives}
 use Rattle.pim_isa.specs.declared.target.Target.{Target}
+use Rattle.pim_isa.specs.declared.port.Port.{Port}
 use Rattle.pim_isa.specs.declared.instr.Operand.{Operand}
 use Rattle.pim_isa.specs.declared.instr.Operand.TheVariants.{Zero, One, Cell}
 use Rattle.pim_isa.specs.declared.instr.Instr.{Instr}
@@ -15,7 +16,8 @@ use Rattle.pim_isa.specs.Programs.{ProgramView}
 use Rattle.pim_isa.specs.Sound.{cells_of, IsValid, HasLabel, IsProgram}
 use Rattle.pim_isa.specs.Touches.{operand_cells, names}
 use Rattle.pim_isa.specs.Validity.{rises_above, is_rising, fault_of}
-use Rattle.pim_text.specs.LineLaws.{ReadLines, OneLine, LackNewlines}
+use Rattle.pim_text.specs.Spelled.{HasPortLine}
+use Rattle.pim_text.specs.LineLaws.{ReadLines, OneLine, LackNewlines, ProgramLines}
 use Rattle.pim_file.specs.declared.fault.FileFault.{FileFault}
 use Rattle.pim_file.specs.declared.fault.FileFault.TheVariants as faults
 use Rattle.pim_file.specs.Text.{text as text_of}
@@ -27,7 +29,21 @@ use Rattle.pim_file.specs.inner.BinaryKept.{program2_within_limit}
 use Rattle.pim_file.proofs.ItemLemmas.{bind_ok}
 use Rattle.pim_file.proofs.BinaryLemmas.{draft2_is, draft2_of-bin}
 use Rattle.pim_file.proofs.KeptLemmas.{size_cases, parse2_of-kept}
-use Rattle.pim_file.proofs.Laws.{fault_cases, all_weaker, all_front, all_back, port_lines, parse1_of-text, program_is}
+use Rattle.pim_file.proofs.Laws.{fault_cases, parse1_of-text, program_is}
+
+-- what holds of each element
+
+all_weaker : {X : Type 0} (P Q : X → Type 0) (xs : List X) → ((x : X) → P x → Q x) → AllByRecursion P xs → AllByRecursion Q xs
+all_weaker P Q [] f h = tt
+all_weaker P Q (x ∷ xs) f h = (f x h.0, all_weaker P Q xs f h.1)
+
+all_front : (P : ℕ → Type 0) (xs ys : List ℕ) → AllByRecursion P (xs ++ ys) → AllByRecursion P xs
+all_front P [] ys h = tt
+all_front P (x ∷ xs) ys h = (h.0, all_front P xs ys h.1)
+
+all_back : (P : ℕ → Type 0) (xs ys : List ℕ) → AllByRecursion P (xs ++ ys) → AllByRecursion P ys
+all_back P [] ys h = h
+all_back P (x ∷ xs) ys h = all_back P xs ys h.1
 
 -- a program has a binary form
 
@@ -62,6 +78,10 @@ valid_bytes target cells (Rm3 p q z) small h =
     let last : z < MAX_CELLS = named.0 in
     (small_operand p (all_front (λ c. c < MAX_CELLS) (operand_cells p) (operand_cells q) named.1.1), (small_operand q (all_back (λ c. c < MAX_CELLS) (operand_cells p) (operand_cells q) named.1.1), (omega arith, tt)))
 
+ports_spelled : (cells : ℕ) (ports : List Port) → cells ≤ MAX_CELLS → AllByRecursion (λ c. c < cells) (cells_of ports) → AllByRecursion HasLabel ports → AllByRecursion HasPortLine ports
+ports_spelled cells [] small h k = tt
+ports_spelled cells (p ∷ ports) small h k = (record { cell = omega arith; label = k.0 }, ports_spelled cells ports small h.1 k.1)
+
 pub program_has_binary : (p : ProgramView) → IsProgram p → HasBinary p
 program_has_binary p h =
     let few_ports = h.few_ports in
@@ -70,9 +90,9 @@ program_has_binary p h =
     record {
       cells = omega arith;
       few_inputs = omega arith;
-      inputs = port_lines p.cells p.inputs h.small (recursion_from_All (λ c. c < p.cells) (cells_of p.inputs) h.sound.inputs) (recursion_from_All HasLabel p.inputs h.input_labels);
+      inputs = ports_spelled p.cells p.inputs h.small (recursion_from_All (λ c. c < p.cells) (cells_of p.inputs) h.sound.inputs) (recursion_from_All HasLabel p.inputs h.input_labels);
       few_outputs = omega arith;
-      outputs = port_lines p.cells p.outputs h.small (recursion_from_All (λ c. c < p.cells) (cells_of p.outputs) h.sound.outputs) (recursion_from_All HasLabel p.outputs h.output_labels);
+      outputs = ports_spelled p.cells p.outputs h.small (recursion_from_All (λ c. c < p.cells) (cells_of p.outputs) h.sound.outputs) (recursion_from_All HasLabel p.outputs h.output_labels);
       few_instrs = omega arith;
       instrs = all_weaker (IsValid p.target p.cells) HasBytes p.instrs (λ i valid. valid_bytes p.target p.cells i h.small valid) (recursion_from_All (IsValid p.target p.cells) p.instrs h.sound.instrs);
     }
@@ -107,10 +127,10 @@ pub parse_of-bin : (p : ProgramView) → IsProgram p → parse_of (bin p) ≡ Ok
 unfolding parse_of
 parse_of-bin p h = parse2_of-bin p h
 
-module _ (read : ReadLines) (lack : LackNewlines) where
+module _ (read : ReadLines) (lack : LackNewlines) (lines : ProgramLines) where
   pub parse_of-text : (p : ProgramView) → IsProgram p → parse_of (text_of p) ≡ Ok p
   unfolding parse_of
-  parse_of-text p h = parse1_of-text read lack p h
+  parse_of-text p h = parse1_of-text read lack lines p h
 
   pub spelling_is_read : (bytes : List ℕ) (p : ProgramView) → IsProgram p → ((bytes ≡ text_of p) ⊎ (bytes ≡ bin p)) → parse_of bytes ≡ Ok p
   spelling_is_read bytes p h (inl text) = ap parse_of text ∙ parse_of-text p h
