@@ -1,4 +1,5 @@
 mod Examples
+mod BinaryExamples
 pub mod CodeLemmas
 pub mod ItemLemmas
 pub mod ManyLemmas
