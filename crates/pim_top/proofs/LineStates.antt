@@ -104,12 +104,16 @@ pub record StandsNext (longest : ℕ) (bytes front : List ℕ) (given : ℕ) (ma
 pub many-next : (longest : ℕ) (bytes left front : List ℕ) (l : LinesView) → IsAtLine longest bytes left l front → Says l left (Err faults.TooMany) →
     (text : List ℕ) × (long : Bool) × StandsNext longest bytes front l.given true long text
 many-next longest bytes left front l h said = elim (finds-next l (rest_of l left)) [
-  | inl f ↦ (f.text, ltb longest (length f.text), record {
-    more = f.more;
-    judged = judged-split longest bytes left front l h ∙ ap (λ (ls : List (List ℕ)). lines front ++ ls) f.judged;
-    count = answered-many (eqb l.given MAX_LINES) (ltb l.longest (length f.text)) (l.given + 1) f.text (sym f.answer ∙ said);
-    size = refl;
-  })
+  | inl f ↦ (
+    f.text,
+    ltb longest (length f.text),
+    record {
+      more = f.more;
+      judged = judged-split longest bytes left front l h ∙ ap (λ (ls : List (List ℕ)). lines front ++ ls) f.judged;
+      count = answered-many (eqb l.given MAX_LINES) (ltb l.longest (length f.text)) (l.given + 1) f.text (sym f.answer ∙ said);
+      size = refl;
+    },
+  )
   | inr (inl f) ↦ absurd (let a = f.answer in let z : ⊥ = cc in z)
   | inr (inr f) ↦ absurd (let a = f.answer in let z : ⊥ = cc in z)
 ]
@@ -118,13 +122,16 @@ pub long-next : (longest : ℕ) (bytes left front : List ℕ) (l : LinesView) (k
     (text : List ℕ) × (k ≡ l.given + 1) × StandsNext longest bytes front l.given false true text
 long-next longest bytes left front l k h said = elim (finds-next l (rest_of l left)) [
   | inl f ↦
-      let t = answered-long (eqb l.given MAX_LINES) (ltb l.longest (length f.text)) (l.given + 1) k f.text (sym f.answer ∙ said) in
-      (f.text, sym t.2, record {
-        more = f.more;
-        judged = judged-split longest bytes left front l h ∙ ap (λ (ls : List (List ℕ)). lines front ++ ls) f.judged;
-        count = t.0;
-        size = ap (λ (n : ℕ). ltb n (length f.text)) (sym h.same) ∙ t.1;
-      })
+      let t = answered-long (eqb l.given MAX_LINES) (ltb l.longest (length f.text)) (l.given + 1) k f.text (sym f.answer ∙ said) in (
+        f.text,
+        sym t.2,
+        record {
+          more = f.more;
+          judged = judged-split longest bytes left front l h ∙ ap (λ (ls : List (List ℕ)). lines front ++ ls) f.judged;
+          count = t.0;
+          size = ap (λ (n : ℕ). ltb n (length f.text)) (sym h.same) ∙ t.1;
+        },
+      )
   | inr (inl f) ↦ absurd (let a = f.answer in let z : ⊥ = cc in z)
   | inr (inr f) ↦ absurd (let a = f.answer in let z : ⊥ = cc in z)
 ]

@@ -1,11 +1,11 @@
 //! `debug`: a program is executed forward and back, as the lines of the input ask.
-ghost use Rattle.std.specs.Prelude.{◌≡◌, ◌+◌, ◌≤◌, ℕ, List, Option, None, Some, true, IfErr, IfOk, OnOk, OnErr};
+ghost use Rattle.std.specs.Prelude.{◌≡◌, ◌+◌, ◌≤◌, ◌++◌, ◌∷◌, [], ℕ, codes, decimal, List, Option, None, Some, true, IfErr, IfOk, OnOk, OnErr};
 ghost use Rattle.pim_io.specs.Bits.{bits_of};
 ghost use Rattle.pim_io.specs.Outside.{Told, TookAll};
 ghost use Rattle.pim_isa.specs.declared.target.Fill.{Fill};
 ghost use Rattle.pim_words.specs.declared.command.Command.TheVariants as commands;
 ghost use Rattle.pim_debug.specs.States.{SessionView};
-ghost use Rattle.pim_top.specs.Debugging.{DebuggedAll, digit_of, longest_of, reply_line};
+ghost use Rattle.pim_top.specs.Debugging.{DebuggedAll, digit_of, digits_of, longest_of, reply_line};
 ghost use Rattle.pim_top.specs.Streams.{seen, stream};
 ghost use Rattle.pim_top.specs.commands.Debug.{DebugEnds};
 ghost use Rattle.pim_top.specs.inner.Faultless.{IsComplete};
@@ -213,38 +213,66 @@ fn write_reply<K: Sink>(alloc: Global, output: &mut K, reply: &Reply) -> Result<
 fn text_of(alloc: Global, reply: &Reply) -> Result<Vec<u8>, NoMemory>
     ensures { IfOk result (λ text. text.items ≡ reply_line reply.now) }
 {
-    let mut text = Vec::new(alloc);
-    let mut digits = Buffer::new();
     match reply {
-        Reply::Nothing | Reply::Quit => return Ok(text),
-        Reply::At(at) => {
-            text.extend_from_slice(b"at ")?;
-            text.extend_from_slice(digits.format(*at).as_bytes())?;
-        }
-        Reply::Break { number, at } => {
-            text.extend_from_slice(b"break ")?;
-            text.extend_from_slice(digits.format(*number).as_bytes())?;
-            text.extend_from_slice(b" at ")?;
-            text.extend_from_slice(digits.format(*at).as_bytes())?;
-        }
-        Reply::Deleted(number) => {
-            text.extend_from_slice(b"deleted ")?;
-            text.extend_from_slice(digits.format(*number).as_bytes())?;
-        }
-        Reply::Cell(cell, bit) => {
-            text.extend_from_slice(b"cell ")?;
-            text.extend_from_slice(digits.format(*cell).as_bytes())?;
-            text.extend_from_slice(b" ")?;
-            text.push(digit_of(*bit))?;
-        }
-        Reply::Show(bits) => {
-            for bit in bits.list() {
-                text.push(digit_of(*bit))?;
-            }
-        }
+        Reply::Nothing | Reply::Quit => Ok(Vec::new(alloc)),
+        Reply::At(at) => numbered(alloc, b"at ", *at),
+        Reply::Break { number, at } => break_text(alloc, *number, *at),
+        Reply::Deleted(number) => numbered(alloc, b"deleted ", *number),
+        Reply::Cell(cell, bit) => cell_text(alloc, *cell, *bit),
+        Reply::Show(bits) => bits_text(alloc, bits.list()),
     }
-    text.push(b'\n')?;
-    Ok(text)
+}
+
+/// A line of a text and a number.
+fn numbered(alloc: Global, text: &[u8], number: u32) -> Result<Vec<u8>, NoMemory>
+    ensures { IfOk result (λ line. line.items ≡ (text.now ++ decimal number) ++ codes "\n") }
+{
+    let mut line = Vec::new(alloc);
+    let mut digits = Buffer::new();
+    line.extend_from_slice(text)?;
+    line.extend_from_slice(digits.format(number).as_bytes())?;
+    line.push(b'\n')?;
+    Ok(line)
+}
+
+/// The line that tells a breakpoint.
+fn break_text(alloc: Global, number: u64, at: u32) -> Result<Vec<u8>, NoMemory>
+    ensures { IfOk result (λ line. line.items ≡ (((codes "break " ++ decimal number) ++ codes " at ") ++ decimal at) ++ codes "\n") }
+{
+    let mut line = Vec::new(alloc);
+    let mut digits = Buffer::new();
+    line.extend_from_slice(b"break ")?;
+    line.extend_from_slice(digits.format(number).as_bytes())?;
+    line.extend_from_slice(b" at ")?;
+    line.extend_from_slice(digits.format(at).as_bytes())?;
+    line.push(b'\n')?;
+    Ok(line)
+}
+
+/// The line that tells a cell.
+fn cell_text(alloc: Global, cell: u32, bit: bool) -> Result<Vec<u8>, NoMemory>
+    ensures { IfOk result (λ line. line.items ≡ (((codes "cell " ++ decimal cell) ++ codes " ") ++ digit_of bit ∷ []) ++ codes "\n") }
+{
+    let mut line = Vec::new(alloc);
+    let mut digits = Buffer::new();
+    line.extend_from_slice(b"cell ")?;
+    line.extend_from_slice(digits.format(cell).as_bytes())?;
+    line.extend_from_slice(b" ")?;
+    line.push(digit_of(bit))?;
+    line.push(b'\n')?;
+    Ok(line)
+}
+
+/// The line of bits.
+fn bits_text(alloc: Global, bits: &[bool]) -> Result<Vec<u8>, NoMemory>
+    ensures { IfOk result (λ line. line.items ≡ digits_of bits.now ++ codes "\n") }
+{
+    let mut line = Vec::new(alloc);
+    for bit in bits {
+        line.push(digit_of(*bit))?;
+    }
+    line.push(b'\n')?;
+    Ok(line)
 }
 
 /// A bit as a character.

@@ -139,3 +139,30 @@ line-stops a b taken p l new s f longest after said =
     (λ left rest t k. λ fill bytes before h. input-stops p fill bytes left rest before taken l new (Some s) f h (λ e. k.0) (λ e. k.1)
     (λ e. ((after.waits e).none, omega (arith, (after.waits e).short, after.longest, longest), (after.waits e).within)) t)
     (said-or a b l new f after said) (held a b l new f after)
+
+-- ---- one line after another
+pub lines-start : (a taken : Option (List ℕ)) (p : ProgramView) (l : LinesView) (s : SessionView) →
+    Told a a (From p taken l s (λ fill bytes before rest. DebugsOn true p fill bytes rest before taken l (Some s)))
+lines-start None taken p l s = tt
+lines-start (Some x) taken p l s = λ fill bytes before h. h
+
+pub lines-then : (a b c taken mid : Option (List ℕ)) (p : ProgramView) (l m : LinesView) (s t : SessionView) (P : Fill → List ℕ → Option (List ℕ) → List ℕ → Type 0) →
+    Told a b (From p taken l s (λ fill bytes before rest. DebugsOn true p fill bytes rest before mid m (Some t))) → Told b c (From p mid m t P) → Told a c (From p taken l s P)
+lines-then None b c taken mid p l m s t P h k = tt
+lines-then (Some x) None c taken mid p l m s t P h k = absurd h
+lines-then (Some x) (Some y) None taken mid p l m s t P h k = absurd k
+lines-then (Some x) (Some y) (Some z) taken mid p l m s t P h k = λ fill bytes before d. k fill bytes before (h fill bytes before d)
+
+-- the session's first line, and then the others
+pub begin-then : (a b c mid : Option (List ℕ)) (p : ProgramView) (fill : Fill) (m : LinesView) (t : SessionView) (P : Fill → List ℕ → Option (List ℕ) → List ℕ → Type 0) →
+    Told a b (λ left rest. (now : Option (List ℕ)) → IsDebugging p fill left rest now now m (Some t)) → Told b c (From p mid m t P) → Told a c (λ bytes rest. P fill bytes mid rest)
+begin-then None b c mid p fill m t P h k = tt
+begin-then (Some x) None c mid p fill m t P h k = absurd h
+begin-then (Some x) (Some y) None mid p fill m t P h k = absurd k
+begin-then (Some x) (Some y) (Some z) mid p fill m t P h k = k fill x mid (h mid)
+
+pub begin-now : (a b mid : Option (List ℕ)) (p : ProgramView) (fill : Fill) (r : Refusal) → Told a b (λ left rest. (now : Option (List ℕ)) → DebugStops p fill left rest now now r) →
+    Told a b (λ bytes rest. DebugStops p fill bytes rest mid mid r)
+begin-now None b mid p fill r h = tt
+begin-now (Some x) None mid p fill r h = absurd h
+begin-now (Some x) (Some y) mid p fill r h = h mid
