@@ -2,3 +2,4 @@ pub mod inner
 pub mod Computes
 pub mod Networks
 pub mod Refusals
+pub mod Targets

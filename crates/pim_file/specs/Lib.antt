@@ -4,4 +4,8 @@ pub mod Sections
 pub mod Reading
 pub mod ProgramFile
 pub mod Right
+pub mod Items
+pub mod BinaryReading
+pub mod Binary
+pub mod BinarySpelled
 pub mod inner

@@ -1,6 +1,7 @@
-//! The program file: the text that a program is written as, and read from.
+//! The program file: the text and the binary form that a program is written as, and read from.
 #![tactic(auto)]
 
+mod binary;
 mod fault;
 mod kept;
 mod parsing;
@@ -8,6 +9,7 @@ mod printing;
 mod reader;
 mod section;
 
+pub use binary::print_binary;
 pub use fault::FileFault;
 pub use parsing::{parse, parse_text};
 pub use printing::print;

@@ -15,6 +15,7 @@ mod mark;
 mod names;
 mod net;
 mod parts;
+mod signal_table;
 mod signals;
 mod table;
 #[cfg(test)]
@@ -31,4 +32,5 @@ pub use limits::{MAX_COLUMNS, MAX_EQUATIONS, MAX_OUTPUTS, MAX_ROWS, MAX_SIGNALS}
 pub use names::Names;
 pub use net::Net;
 pub use parts::{Equation, OutRef};
+pub use signal_table::SignalTable;
 pub use signals::Signals;

@@ -55,7 +55,7 @@ impl Net {
 
     /// Judges a draft: it is a netlist where each signal has at most one driver, each signal that is read has one, and
     /// each equation has a depth. A netlist keeps the draft's lists; a refusal is the draft's one fault, and the signals of
-    /// a cycle are one. Linear in the size of the draft and its greatest signal.
+    /// a cycle are one. Expected linear in the size of the draft, however great the numbers of its signals are.
     pub fn check(alloc: Global, draft: Draft) -> Result<Net, NetFault>
         ensures kept { IfOk result (λ net. draft_of net ≡ draft) }
         ensures accepted { OnOk result (net_fault draft ≡ None) }
