@@ -1,3 +1,4 @@
+mod Examples
 pub mod BodyLemmas
 pub mod LabelLemmas
 pub mod NameLemmas

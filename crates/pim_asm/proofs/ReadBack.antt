@@ -31,7 +31,7 @@ use Rattle.pim_asm.specs.Labels.{hex_value, hex_digit, is_clear, unescaped, Betw
 use Rattle.pim_asm.specs.Listing.{port_listing, ports_listing, instr_listing, instrs_listing, listing_of}
 use Rattle.pim_asm.specs.Names.{begins_name, is_name, known_cell}
 use Rattle.pim_asm.specs.Statements.{Input, Output, Does, port_of, statement_of}
-use Rattle.pim_asm.specs.Words.{is_quote, is_semicolon, words_after, words}
+use Rattle.pim_asm.specs.Words.{is_quote, ends_word, words_after, words}
 use Rattle.pim_asm.specs.inner.Bytes.{AreBytes, HasByteLabel}
 use Rattle.pim_asm.proofs.LabelLemmas.{unescaped-clear}
 use Rattle.pim_asm.proofs.WordLemmas.{close_some}
@@ -41,11 +41,8 @@ use Rattle.pim_asm.proofs.WordLemmas.{close_some}
 plain_no_quote : (b : ℕ) → is_plain b ≡ true → is_quote b ≡ false
 plain_no_quote b h = grind (arith, nat_tests)
 
-plain_no_semicolon : (b : ℕ) → is_plain b ≡ true → is_semicolon b ≡ false
-plain_no_semicolon b h = grind (arith, nat_tests)
-
-plain_no_blank : (b : ℕ) → is_plain b ≡ true → is_blank b ≡ false
-plain_no_blank b h = grind (arith, nat_tests)
+plain_ends_nothing : (b : ℕ) → is_plain b ≡ true → ends_word false b ≡ false
+plain_ends_nothing b h = grind (arith, nat_tests)
 
 -- a run of plain bytes
 words_after-plain : (run word rest : List ℕ) → list_all is_plain word ≡ true → words_after false run (word ++ rest) ≡ words_after false (run ++ word) rest
@@ -53,7 +50,7 @@ words_after-plain run [] rest h = rw append-nil refl
 words_after-plain run (b ∷ word) rest h =
     let parts = and_parts (is_plain b) (list_all is_plain word) h in
     let more = words_after-plain (run ++ b ∷ []) word rest parts.1 in
-    rw (plain_no_quote b parts.0, plain_no_semicolon b parts.0, plain_no_blank b parts.0) (more ∙ ap (λ (t : List ℕ). words_after false t rest) (append_assoc run (b ∷ []) word))
+    rw (plain_ends_nothing b parts.0, plain_no_quote b parts.0) (more ∙ ap (λ (t : List ℕ). words_after false t rest) (append_assoc run (b ∷ []) word))
 
 -- a plain word and a space behind it
 words-word : (word rest : List ℕ) → IsPlainWord word → words (word ++ 32 ∷ rest) ≡ word ∷ words rest
