@@ -1,19 +1,5 @@
 """BLIF files: how statements are joined, and the line of each fault."""
-from program import equal, stops
-
-
-def compile_of(pim, netlist):
-    return pim("compile", "--target", "magic", "--cells", "20", stdin=netlist)
-
-
-def has_ports(pim, netlist, inputs, outputs):
-    """The netlist is compiled, and these are the labels of its ports."""
-    answer = compile_of(pim, netlist)
-    equal("the note", answer.notes, b"")
-    equal("the status", answer.status, 0)
-    lines = [line.split(b" ", 2) for line in answer.output.split(b"\n")]
-    equal("the inputs", [line[2] for line in lines if line[0] == b"input"], inputs)
-    equal("the outputs", [line[2] for line in lines if line[0] == b"output"], outputs)
+from program import compile_of, has_ports, stops
 
 
 def test_statements_of_blif(pim, folder):
