@@ -4,3 +4,4 @@ pub mod Names
 pub mod Statements
 pub mod Assembly
 pub mod Listing
+pub mod inner

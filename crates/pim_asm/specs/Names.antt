@@ -20,7 +20,7 @@ is_name (b ∷ bytes) = begins_name b && nat_le (length bytes) 63 && list_all is
 -- the cell of a name among these
 abbrev pub cell_named : List (List ℕ × ℕ) → List ℕ → Option ℕ
 cell_named [] name = None
-cell_named (known ∷ names) name = if bytes_eq known.0 name then Some known.1 else cell_named names name
+cell_named (known ∷ names) name = if bytes_eq name known.0 then Some known.1 else cell_named names name
 
 -- the cell that a word stands for, where these names are defined: that of the name, or the number
 abbrev pub known_cell : List (List ℕ × ℕ) → List ℕ → Option ℕ

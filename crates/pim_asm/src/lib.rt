@@ -3,9 +3,15 @@
 #![tactic(auto)]
 
 mod assembler;
+mod assembling;
+mod body;
 mod fault;
+mod labels;
 mod listings;
+mod names;
+mod statement;
+mod words;
 
-pub use assembler::assemble;
+pub use assembling::assemble;
 pub use fault::AsmFault;
 pub use listings::listing;

@@ -1,4 +1,9 @@
 mod Examples
+pub mod CodeLemmas
+pub mod ItemLemmas
+pub mod ManyLemmas
+pub mod BinaryLemmas
+pub mod KeptLemmas
 pub mod Laws
 pub mod LimitLemmas
 pub mod OneText

@@ -29,16 +29,6 @@ use Rattle.pim_file.specs.Text.{instrs_text, head_text, text as text_of}
 use Rattle.pim_file.specs.Reading.{Reading, start, begun, after, is_ended}
 use Rattle.pim_file.specs.ProgramFile.{read_from, any_size, draft_of}
 
--- a line without a newline in it, and a newline
-lines-line : (number start : ℕ) (run line rest : List ℕ) → lacks 10 line ≡ true → lines_after number start run (line ++ 10 ∷ rest) ≡ record { number = number; start = start; text = run ++ line; ended = true } ∷ lines_after (number + 1) (start + length (run ++ line) + 1) [] rest
-lines-line number start run [] rest h = rw append-nil refl
-lines-line number start run (b ∷ line) rest h =
-    let parts = and_parts (not (eqb b 10)) (lacks 10 line) h in
-    let other : is_newline b ≡ false = not-true _ parts.0 in
-    let more = lines-line number start (run ++ b ∷ []) line rest parts.1 in
-    let whole : (run ++ b ∷ []) ++ line ≡ run ++ b ∷ line = append_assoc run (b ∷ []) line in
-    rw other (more ∙ ap (λ (t : List ℕ). record { number = number; start = start; text = t; ended = true } ∷ lines_after (number + 1) (start + length t + 1) [] rest) whole)
-
 -- the bytes from a line on, which begins at this place
 abbrev read_at : ℕ → ℕ → Reading → List ℕ → Result ProgramView FileFault
 read_at number place r bytes = read_from any_size r (lines_after number place [] bytes)
@@ -71,64 +61,64 @@ last_piece number place r (b ∷ bytes) h = rw h refl
 piece_cut : (number place : ℕ) (r : Reading) (bytes : List ℕ) → is_ended r.section ≡ false → lacks 10 bytes ≡ true → read_at number place r bytes ≡ Err faults.Truncated
 piece_cut number place r bytes h l = ap (λ (ls : List LineView). read_from any_size r ls) (lines-last number place [] bytes l) ∙ last_piece number place r bytes h
 
-line_passes : (r next : Reading) (line : List ℕ) → is_ended r.section ≡ false → lacks 10 line ≡ true → after any_size r line ≡ Some next → Passes r (line ++ codes "\n") next
-line_passes r next line before h e = record {
-  whole = λ number place rest.
-      let cut : lines_after number place [] ((line ++ codes "\n") ++ rest) ≡ record { number = number; start = place; text = line; ended = true } ∷ lines_after (number + 1) (place + length line + 1) [] rest =
-      ap (λ (t : List ℕ). lines_after number place [] t) (append_assoc line (codes "\n") rest) ∙ lines-line number place [] line rest h in
-      (number + 1, place + length line + 1, ap (λ (ls : List LineView). read_from any_size r ls) cut ∙ rw e refl);
-  cut = λ number place k lt.
-      let within : k ≤ length line = omega (arith, length-append line (codes "\n")) in
-      let front : take k (line ++ codes "\n") ≡ take k line = take-append-le k line (codes "\n") within in
-      ap (λ (t : List ℕ). read_at number place r t) front ∙ piece_cut number place r (take k line) before (lacks-take 10 k line h);
-}
-
-parts_of : (k n : ℕ) → n ≤ k → k ≡ n + (k - n)
-parts_of k n le = omega arith
-
-passes_nil : (r : Reading) → Passes r [] r
-passes_nil r = record {
-  whole = λ number place rest. (number, place, refl);
-  cut = λ number place k lt. absurd (omega arith);
-}
-
-passes_both : (r s t : Reading) (a b : List ℕ) → Passes r a s → Passes s b t → Passes r (a ++ b) t
-passes_both r s t a b f g = record {
-  whole = λ number place rest.
-      let first = f.whole number place (b ++ rest) in
-      let second = g.whole first.0 first.1 rest in
-      (second.0, second.1, ap (λ (u : List ℕ). read_at number place r u) (append_assoc a b rest) ∙ first.2 ∙ second.2);
-  cut = λ number place k lt.
-      elim (cases_lt k (length a)) [
-        | inl early ↦
-            let within : k ≤ length a = omega arith in
-            ap (λ (u : List ℕ). read_at number place r u) (take-append-le k a b within) ∙ f.cut number place k early
-        | inr late ↦
-            let first = f.whole number place (take (k - length a) b) in
-            let inside : k - length a < length b = omega (arith, length-append a b) in
-            let inner : take k (a ++ b) ≡ a ++ take (k - length a) b = ap (λ (n : ℕ). take n (a ++ b)) (parts_of k (length a) late) ∙ take-append-add a b (k - length a) in
-            ap (λ (u : List ℕ). read_at number place r u) inner ∙ first.2 ∙ g.cut first.0 first.1 (k - length a) inside
-      ];
-}
-
--- the parts of a draft, one after another
-
-abbrev form_read : Reading
-form_read = record { section = section.Target; draft = None }
-
-abbrev target_read : Target → Reading
-target_read target = record { section = section.Cells target; draft = None }
-
-abbrev inputs_read : ProgramView → Reading
-inputs_read d = record { section = section.Inputs; draft = Some d }
-
-abbrev ended_read : ProgramView → Reading
-ended_read d = record { section = section.Ended; draft = Some d }
-
-form_passes : Passes start (codes "pim 1" ++ codes "\n") form_read
-form_passes = line_passes start form_read (codes "pim 1") refl refl refl
-
 module _ (laws : ReadLines) (lack : LackNewlines) where
+  line_passes : (r next : Reading) (line : List ℕ) → is_ended r.section ≡ false → lacks 10 line ≡ true → after any_size r line ≡ Some next → Passes r (line ++ codes "\n") next
+  line_passes r next line before h e = record {
+    whole = λ number place rest.
+        let cut : lines_after number place [] ((line ++ codes "\n") ++ rest) ≡ record { number = number; start = place; text = line; ended = true } ∷ lines_after (number + 1) (place + length line + 1) [] rest =
+        ap (λ (t : List ℕ). lines_after number place [] t) (append_assoc line (codes "\n") rest) ∙ lack.cut number place line rest h in
+        (number + 1, place + length line + 1, ap (λ (ls : List LineView). read_from any_size r ls) cut ∙ rw e refl);
+    cut = λ number place k lt.
+        let within : k ≤ length line = omega (arith, length-append line (codes "\n")) in
+        let front : take k (line ++ codes "\n") ≡ take k line = take-append-le k line (codes "\n") within in
+        ap (λ (t : List ℕ). read_at number place r t) front ∙ piece_cut number place r (take k line) before (lacks-take 10 k line h);
+  }
+
+  parts_of : (k n : ℕ) → n ≤ k → k ≡ n + (k - n)
+  parts_of k n le = omega arith
+
+  passes_nil : (r : Reading) → Passes r [] r
+  passes_nil r = record {
+    whole = λ number place rest. (number, place, refl);
+    cut = λ number place k lt. absurd (omega arith);
+  }
+
+  passes_both : (r s t : Reading) (a b : List ℕ) → Passes r a s → Passes s b t → Passes r (a ++ b) t
+  passes_both r s t a b f g = record {
+    whole = λ number place rest.
+        let first = f.whole number place (b ++ rest) in
+        let second = g.whole first.0 first.1 rest in
+        (second.0, second.1, ap (λ (u : List ℕ). read_at number place r u) (append_assoc a b rest) ∙ first.2 ∙ second.2);
+    cut = λ number place k lt.
+        elim (cases_lt k (length a)) [
+          | inl early ↦
+              let within : k ≤ length a = omega arith in
+              ap (λ (u : List ℕ). read_at number place r u) (take-append-le k a b within) ∙ f.cut number place k early
+          | inr late ↦
+              let first = f.whole number place (take (k - length a) b) in
+              let inside : k - length a < length b = omega (arith, length-append a b) in
+              let inner : take k (a ++ b) ≡ a ++ take (k - length a) b = ap (λ (n : ℕ). take n (a ++ b)) (parts_of k (length a) late) ∙ take-append-add a b (k - length a) in
+              ap (λ (u : List ℕ). read_at number place r u) inner ∙ first.2 ∙ g.cut first.0 first.1 (k - length a) inside
+        ];
+  }
+
+  -- the parts of a draft, one after another
+
+  abbrev form_read : Reading
+  form_read = record { section = section.Target; draft = None }
+
+  abbrev target_read : Target → Reading
+  target_read target = record { section = section.Cells target; draft = None }
+
+  abbrev inputs_read : ProgramView → Reading
+  inputs_read d = record { section = section.Inputs; draft = Some d }
+
+  abbrev ended_read : ProgramView → Reading
+  ended_read d = record { section = section.Ended; draft = Some d }
+
+  form_passes : Passes start (codes "pim 1" ++ codes "\n") form_read
+  form_passes = line_passes start form_read (codes "pim 1") refl refl refl
+
   target_passes : (target : Target) → Passes form_read ((codes "target " ++ target_word target) ++ codes "\n") (target_read target)
   target_passes target = line_passes form_read (target_read target) (codes "target " ++ target_word target) refl (lack.target target) (rw (laws.target target) refl)
 

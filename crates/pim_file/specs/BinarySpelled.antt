@@ -5,7 +5,7 @@ use Rattle.pim_isa.specs.declared.instr.Instr.{Instr}
 use Rattle.pim_isa.specs.declared.instr.Instr.TheVariants.{Init, Nor, Rm3}
 use Rattle.pim_isa.specs.Programs.{ProgramView}
 use Rattle.pim_isa.specs.Touches.{operands}
-use Rattle.pim_file.specs.Spelled.{AreSpelled, HasPortLine}
+use Rattle.pim_text.specs.Spelled.{AreSpelled, HasPortLine}
 use Rattle.pim_file.specs.Binary.{operand_number}
 
 -- the numbers of an instruction, its count of cells among them, can be written

@@ -1,3 +1,4 @@
 -- Definitions that only private functions and the keeping of a type cite.
 pub mod Kept
 pub mod Places
+pub mod BinaryKept

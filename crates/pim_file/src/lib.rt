@@ -1,7 +1,7 @@
 //! The program file: the text and the binary form that a program is written as, and read from.
 #![tactic(auto)]
 
-mod binary_printing;
+mod binary;
 mod fault;
 mod kept;
 mod parsing;
@@ -9,7 +9,7 @@ mod printing;
 mod reader;
 mod section;
 
-pub use binary_printing::print_binary;
+pub use binary::print_binary;
 pub use fault::FileFault;
 pub use parsing::{parse, parse_text};
 pub use printing::print;

@@ -12,6 +12,7 @@ ghost use Rattle.pim_file.specs.Binary.{bin};
 ghost use Rattle.pim_file.specs.BinaryReading.{parse_of};
 ghost use Rattle.pim_file.specs.inner.Kept.{within_limit, program_within_limit};
 
+use crate::binary::{has_tag, parse_binary};
 use crate::fault::FileFault;
 use crate::reader::Reader;
 use pim_io::{MAX_PROGRAM, Scan};
@@ -48,9 +49,11 @@ pub fn parse(alloc: Global, bytes: &[u8]) -> Result<Program, FileFault>
     // No other bytes are read as this program.
     ensures spelled { IfOk result (λ program. (bytes.now ≡ text_of program) ⊎ (bytes.now ≡ bin program)) }
 {
-    let _ = alloc;
-    let _ = bytes;
-    Err(FileFault::NoMemory)
+    if has_tag(bytes) {
+        parse_binary(alloc, bytes)
+    } else {
+        parse_text(alloc, bytes)
+    }
 }
 
 /// The program of the draft of a program file.

@@ -1,9 +1,10 @@
--- No newline stands in the line of a target, of a number, of a port or of an instruction.
-use Rattle.std.proofs.Common.{◌≡◌, ℕ, ◌≤◌, true, false, eqb, List, [], ◌∷◌, ◌++◌, codes, refl, arith}
+-- No newline stands in the line of a target, of a number, of a port or of an instruction; and where lines are cut.
+use Rattle.std.proofs.Common.{◌≡◌, ℕ, ◌+◌, ◌≤◌, true, false, not, eqb, List, [], ◌∷◌, ◌++◌, length, codes, refl, ap, ◌∙◌, append_assoc, arith}
 use Rattle.std.specs.Fmt.{decimal}
 use Rattle.std.specs.List.{list_all}
-use Rattle.std.proofs.lemmas.Bool.{and_parts, leb-true, ne_eqb}
+use Rattle.std.proofs.lemmas.Bool.{and_parts, not-true, leb-true, ne_eqb}
 use Rattle.std.proofs.lemmas.List.{append-nil}
+use Rattle.pim_io.specs.Lines.{is_newline, lines_after}
 use Rattle.pim_io.specs.Names.{is_shown, is_label}
 use Rattle.pim_isa.specs.declared.target.Target.{Target}
 use Rattle.pim_isa.specs.declared.target.Target.TheVariants.{Magic, Plim}
@@ -66,3 +67,16 @@ lacks-instr (Rm3 p q z) h =
 pub lacks-target : (target : Target) → lacks 10 (target_line target) ≡ true
 lacks-target Magic = refl
 lacks-target Plim = refl
+
+-- a line without a newline in it, and a newline
+lines-run : (number start : ℕ) (run line rest : List ℕ) → lacks 10 line ≡ true → lines_after number start run (line ++ 10 ∷ rest) ≡ record { number = number; start = start; text = run ++ line; ended = true } ∷ lines_after (number + 1) (start + length (run ++ line) + 1) [] rest
+lines-run number start run [] rest h = rw append-nil refl
+lines-run number start run (b ∷ line) rest h =
+    let parts = and_parts (not (eqb b 10)) (lacks 10 line) h in
+    let other : is_newline b ≡ false = not-true _ parts.0 in
+    let more = lines-run number start (run ++ b ∷ []) line rest parts.1 in
+    let whole : (run ++ b ∷ []) ++ line ≡ run ++ b ∷ line = append_assoc run (b ∷ []) line in
+    rw other (more ∙ ap (λ (t : List ℕ). record { number = number; start = start; text = t; ended = true } ∷ lines_after (number + 1) (start + length t + 1) [] rest) whole)
+
+pub lines-line : (number start : ℕ) (line rest : List ℕ) → lacks 10 line ≡ true → lines_after number start [] (line ++ 10 ∷ rest) ≡ record { number = number; start = start; text = line; ended = true } ∷ lines_after (number + 1) (start + length line + 1) [] rest
+lines-line number start line rest h = lines-run number start [] line rest h

@@ -4,4 +4,5 @@ pub mod LabelLemmas
 pub mod LackLemmas
 pub mod LineLemmas
 pub mod NumberLemmas
+pub mod ProgramLemmas
 pub mod WordLemmas

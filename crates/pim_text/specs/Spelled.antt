@@ -7,6 +7,7 @@ use Rattle.pim_isa.specs.declared.instr.Operand.{Operand}
 use Rattle.pim_isa.specs.declared.instr.Operand.TheVariants.{Zero, One, Cell}
 use Rattle.pim_isa.specs.declared.instr.Instr.{Instr}
 use Rattle.pim_isa.specs.declared.instr.Instr.TheVariants.{Init, Nor, Rm3}
+use Rattle.pim_isa.specs.Programs.{ProgramView}
 use Rattle.pim_isa.specs.Touches.{operands}
 
 -- numbers that have a spelling
@@ -29,3 +30,10 @@ HasLine (Rm3 p q z) = IsSpelledOperand p × IsSpelledOperand q × (z < 2 ^ 32)
 pub record HasPortLine (port : Port) : Type 0 where
   pub cell : port.cell < 2 ^ 32
   pub label : IsLabel port.label
+
+-- a program whose ports and instructions have lines
+pub record HasLines (p : ProgramView) : Type 0 where
+  pub cells : p.cells < 2 ^ 32
+  pub inputs : AllByRecursion HasPortLine p.inputs
+  pub outputs : AllByRecursion HasPortLine p.outputs
+  pub instrs : AllByRecursion HasLine p.instrs

@@ -8,4 +8,4 @@ pub mod StatusKinds
 pub mod Wholes
 pub mod RowsEnds
 pub mod Clauses
-pub mod CycleLabels
+pub mod SpacedLabels
