@@ -7,9 +7,9 @@ use crate::judgement::Judgement;
 use crate::program::program_of;
 use crate::refusal::Origin;
 use crate::whole::WholeText;
-use pim_life::explain;
 use pim_io::MAX_PROGRAM;
 use pim_isa::Program;
+use pim_life::explain;
 use std::alloc::Global;
 
 /// `explain`, which has no options.
