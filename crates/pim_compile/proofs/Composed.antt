@@ -1,5 +1,5 @@
 -- What the parts of a compilation say of one another gives what the whole says.
-use Rattle.std.proofs.Common.{◌≡◌, ◌⊎◌, ℕ, ◌+◌, ◌-◌, ◌≤◌, min, Bool, List, length, map, Result, Ok, Err, inl, inr, ◌∙◌, ap, subst, arith}
+use Rattle.std.proofs.Common.{◌≡◌, ℕ, ◌+◌, ◌-◌, ◌≤◌, min, Bool, List, length, map, Result, Ok, Err, inl, inr, sym, ◌∙◌, ap, subst, arith}
 use Rattle.std.specs.Prelude.{IfErr, IfOk, OnOk}
 use Rattle.pim_aig.specs.Flat.{ands, flat}
 use Rattle.pim_aig.specs.Graph.{AigView}
@@ -24,11 +24,12 @@ use Rattle.pim_simpler.specs.Batching.{Batched}
 use Rattle.pim_simpler.specs.Needs.{needed_of, AsksAtMost, IsRefusalFor}
 use Rattle.pim_simpler.specs.declared.refusal.Refusal.{Refusal}
 use Rattle.pim_simpler.specs.declared.refusal.Refusal.TheVariants.{TooFewCells, NoMemory}
+use Rattle.pim_compile.specs.Choices.{FitsInNoFewer, IsCandidate, IsChosen}
 use Rattle.pim_compile.specs.Computes.{Computes}
 use Rattle.pim_compile.specs.Networks.{FollowsNetwork, FollowsSome, TakesCycles, coarse_need, coarse_of, need, need_of, nors_of_two}
 use Rattle.pim_compile.specs.Refusals.{IsAccepted}
 use Rattle.pim_compile.specs.Targets.{OnMagic, OnPlim}
-use Rattle.pim_compile.specs.inner.Candidates.{IsBase, IsCandidate, IsMagic, IsProgramOf, IsScarce, IsScheduled, IsShortOf, IsUnfit, IsUnfitFor}
+use Rattle.pim_compile.specs.inner.Candidates.{IsBase, IsMagic, IsNoShorter, IsOfWidth, IsOneOf, IsProgramOf, IsScarce, IsScheduled, IsShortOf, IsUnfit, IsUnfitFor}
 use Rattle.pim_compile.specs.declared.compiling.Level.{Level}
 use Rattle.pim_compile.specs.declared.compiling.Level.TheVariants.{Zero}
 use Rattle.pim_compile.specs.declared.refusal.Refusal.{Refusal as Refused}
@@ -54,10 +55,11 @@ within_budget cells inputs peak gates budget is enough = omega arith
 
 pub candidate_fits : (g : AigView) (w : NorView) (ports : PortsView) (width : Width) (budget : ℕ) (r : Result ProgramView Refusal) → w ≡ nors g width → ((bits : List Bool) → length bits ≡ g.inputs → out_values w bits ≡ map (aval g bits) g.outputs) → nor_count (nors g Four).gates ≤ nor_count (nors g Two).gates → length ports.inputs ≡ g.inputs →
     IfOk r (λ p. Realizes p ports.inputs (out_values w)) → IfOk r (λ p. labels_of p.outputs ≡ ports.outputs) → IfOk r (λ p. p.target ≡ Magic) → IfOk r (λ p. p.cells ≡ w.inputs + min (budget - w.inputs) (length w.gates)) → IfOk r (λ p. IsPrimed p.instrs) → IfOk r (λ p. FollowsNetwork p w) → IfOk r (λ p. Batched p) → IfOk r (λ p. length (nor_places p.instrs) ≡ nor_count w.gates) → OnOk r (needed_of w ≤ budget) →
-    IfOk r (IsCandidate g ports width budget)
+    IfOk r (IsOfWidth g ports width budget)
 candidate_fits g w ports width budget (Ok p) network values fewer inputs realizes labels target cells primed follows batched few_nors enough =
     let F : NorView → Type 0 = FollowsNetwork p in
     let N : NorView → Type 0 = λ x. needed_of x ≤ budget in
+    let C : NorView → Type 0 = λ x. p.cells ≡ x.inputs + min (budget - x.inputs) (length x.gates) in
     let same = ap (λ (x : NorView). nor_count x.gates) network in
     record {
       program = record {
@@ -69,6 +71,7 @@ candidate_fits g w ports width budget (Ok p) network values fewer inputs realize
       };
       follows = subst F network follows;
       batched = batched;
+      wide = subst C network cells;
       few_nors = omega (arith, by_width g width fewer);
       enough = subst N network enough;
     }
@@ -86,18 +89,29 @@ candidate_unfit g w width budget (Err (TooFewCells told)) network refused most =
 candidate_unfit g w width budget (Err NoMemory) network refused most = tt
 
 -- ---- the one of two candidates that is chosen
-at_ok : (g : AigView) (ports : PortsView) (width : Width) (budget : ℕ) (r : Result ProgramView Refusal) (p : ProgramView) → r ≡ Ok p → IfOk r (IsCandidate g ports width budget) → IsCandidate g ports width budget p
-at_ok g ports width budget r p e fits =
-    let P : Result ProgramView Refusal → Type 0 = λ q. IfOk q (IsCandidate g ports width budget) in
-    subst P e fits
+-- a network that does not fit is not spoken of
+unfit_silent : (g : AigView) (ports : PortsView) (width : Width) (budget told cycles : ℕ) → IsUnfit g width budget told → IsNoShorter g ports width budget cycles
+unfit_silent g ports width budget told cycles u = λ fits. absurd (let z : ⊥ = omega (arith, u.is, u.below) in z)
 
-pub chosen_fits : (g : AigView) (ports : PortsView) (budget : ℕ) (four two : Result ProgramView Refusal) (r : Result ProgramView Refused) → IfOk four (IsCandidate g ports Four budget) → IfOk two (IsCandidate g ports Two budget) → IfOk r (λ p. (four ≡ Ok p) ⊎ (two ≡ Ok p)) → IfOk r (IsMagic g ports budget)
-chosen_fits g ports budget four two (Ok p) fits_four fits_two one =
+pub chosen_fits : (g : AigView) (ports : PortsView) (budget : ℕ) (four two : Result ProgramView Refusal) (r : Result ProgramView Refused) → IfOk four (IsOfWidth g ports Four budget) → IfOk two (IsOfWidth g ports Two budget) → IfErr four (IsUnfitFor g Four budget) → IfErr two (IsUnfitFor g Two budget) → IfOk r (IsOneOf four two) → IfOk r (IsMagic g ports budget)
+chosen_fits g ports budget four two (Err e) f t u v one = tt
+chosen_fits g ports budget (Ok four) (Ok two) (Ok p) f t u v one =
+    let F : ProgramView → Type 0 = IsOfWidth g ports Four budget in
+    let T : ProgramView → Type 0 = IsOfWidth g ports Two budget in
     elim one [
-      | inl e ↦ inl (at_ok g ports Four budget four p e fits_four)
-      | inr e ↦ inr (at_ok g ports Two budget two p e fits_two)
+      | inl e ↦ inl (subst F (sym e.0) f, λ fits. (two, t, let same = ap (λ (q : ProgramView). length q.instrs) e.0 in omega (arith, e.1)))
+      | inr e ↦ inr (subst T (sym e.0) t, λ fits. (four, f, let same = ap (λ (q : ProgramView). length q.instrs) e.0 in omega (arith, e.1)))
     ]
-chosen_fits g ports budget four two (Err e) fits_four fits_two one = tt
+chosen_fits g ports budget (Ok four) (Err (TooFewCells told)) (Ok p) f t u v one =
+    let F : ProgramView → Type 0 = IsOfWidth g ports Four budget in
+    inl (subst F (sym one) f, unfit_silent g ports Two budget told (length p.instrs) v)
+chosen_fits g ports budget (Ok four) (Err NoMemory) (Ok p) f t u v one = absurd one
+chosen_fits g ports budget (Err (TooFewCells told)) (Ok two) (Ok p) f t u v one =
+    let T : ProgramView → Type 0 = IsOfWidth g ports Two budget in
+    inr (subst T (sym one) t, unfit_silent g ports Four budget told (length p.instrs + 1) u)
+chosen_fits g ports budget (Err NoMemory) (Ok two) (Ok p) f t u v one = absurd one
+chosen_fits g ports budget (Err (TooFewCells told)) (Err second) (Ok p) f t u v one = absurd one
+chosen_fits g ports budget (Err NoMemory) (Err second) (Ok p) f t u v one = absurd one
 
 -- where both lack room
 record AreUnfit (g : AigView) (budget needed : ℕ) : Type 0 where
@@ -152,6 +166,7 @@ pub record IsCompiled (n : NetView) (target : Target) (level : Level) (budget : 
   pub follows : OnMagic target (FollowsSome level p n)
   pub batched : OnMagic target (Batched p)
   pub nors : OnMagic target (length (nor_places p.instrs) ≤ nors_of_two n)
+  pub chosen : OnMagic target (IsChosen level n budget p)
   pub cycles : OnPlim target (TakesCycles level p n)
   pub accepted : IsAccepted n target level budget
 
@@ -171,8 +186,27 @@ least_width : (g : AigView) (width : Width) (budget : ℕ) → needed_of (nors g
 least_width g Two budget enough = omega arith
 least_width g Four budget enough = omega arith
 
-compiled_at : (n : NetView) (g : AigView) (ports : PortsView) (width : Width) (budget : ℕ) (p : ProgramView) → IsFlat n g ports → IsCandidate g ports width budget p → IsCompiled n Magic Zero budget p
-compiled_at n g ports width budget p f c =
+-- the program of a network of the flat graph is one of the netlist's
+candidate_net : (n : NetView) (g : AigView) (ports : PortsView) (width : Width) (budget : ℕ) (p : ProgramView) → IsFlat n g ports → IsOfWidth g ports width budget p → IsCandidate n width budget p
+candidate_net n g ports width budget p f c =
+    let F : AigView → Type 0 = λ x. FollowsNetwork p (nors x width) in
+    let C : AigView → Type 0 = λ x. p.cells ≡ x.inputs + min (budget - x.inputs) (length (nors x width).gates) in
+    record {
+      computes = computes_net n g ports Magic budget p f c.program;
+      primed = c.program.primed;
+      follows = subst F f.graph c.follows;
+      batched = c.batched;
+      cells = subst C f.graph c.wide;
+    }
+
+no_fewer : (n : NetView) (g : AigView) (ports : PortsView) (width : Width) (budget cycles : ℕ) → IsFlat n g ports → IsNoShorter g ports width budget cycles → FitsInNoFewer n width budget cycles
+no_fewer n g ports width budget cycles f h = λ fits.
+    let E : AigView → Type 0 = λ x. needed_of (nors x width) ≤ budget in
+    let found = h (subst E (sym f.graph) fits) in
+    record { other = found.0; is = candidate_net n g ports width budget found.0 f found.1; no_fewer = found.2 }
+
+compiled_at : (n : NetView) (g : AigView) (ports : PortsView) (width : Width) (budget : ℕ) (p : ProgramView) → IsFlat n g ports → IsOfWidth g ports width budget p → IsChosen Zero n budget p → IsCompiled n Magic Zero budget p
+compiled_at n g ports width budget p f c chosen =
     let F : AigView → Type 0 = λ x. FollowsNetwork p (nors x width) in
     let N : AigView → Type 0 = λ x. length (nor_places p.instrs) ≤ nor_count (nors x Two).gates in
     let E : AigView → Type 0 = λ x. need_of x Magic ≤ budget in
@@ -184,6 +218,7 @@ compiled_at n g ports width budget p f c =
       follows = follows_some n p width (subst F f.graph c.follows);
       batched = c.batched;
       nors = subst N f.graph c.few_nors;
+      chosen = chosen;
       cycles = tt;
       accepted = record { few = f.few; enough = subst E f.graph (least_width g width budget c.enough) };
     }
@@ -197,14 +232,17 @@ compiled_base n g ports budget p f c = record {
   follows = tt;
   batched = tt;
   nors = tt;
+  chosen = tt;
   cycles = c.cycles ∙ ap rm3_cost f.graph;
   accepted = record { few = f.few; enough = tt };
 }
 
 pub compiled : (n : NetView) (g : AigView) (ports : PortsView) (target : Target) (level : Level) (budget : ℕ) (p : ProgramView) → IsFlat n g ports → IsScheduled g ports target level budget p → IsCompiled n target level budget p
 compiled n g ports Magic Zero budget p f c = elim c [
-  | inl four ↦ compiled_at n g ports Four budget p f four
-  | inr two ↦ compiled_at n g ports Two budget p f two
+  | inl four ↦ compiled_at n g ports Four budget p f four.0
+      (inl (candidate_net n g ports Four budget p f four.0, no_fewer n g ports Two budget (length p.instrs) f four.1))
+  | inr two ↦ compiled_at n g ports Two budget p f two.0
+      (inr (candidate_net n g ports Two budget p f two.0, no_fewer n g ports Four budget (length p.instrs + 1) f two.1))
 ]
 compiled n g ports Plim Zero budget p f c = compiled_base n g ports budget p f c
 

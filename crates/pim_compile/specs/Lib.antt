@@ -1,4 +1,5 @@
 pub mod inner
+pub mod Choices
 pub mod Computes
 pub mod Networks
 pub mod Refusals

@@ -7,6 +7,7 @@ ghost use Rattle.pim_isa.specs.Writes.{nor_places};
 ghost use Rattle.pim_isa.specs.declared.draft.TheConstants.{MAX_CELLS};
 ghost use Rattle.pim_isa.specs.declared.target.Target.TheVariants as target_is;
 ghost use Rattle.pim_simpler.specs.Batching.{Batched};
+ghost use Rattle.pim_compile.specs.Choices.{IsChosen};
 ghost use Rattle.pim_compile.specs.Computes.{Computes};
 ghost use Rattle.pim_compile.specs.Networks.{FollowsSome, TakesCycles, coarse_need, coarse_of, need, need_of, nors_of_two};
 ghost use Rattle.pim_compile.specs.Refusals.{IsAccepted, IsCoarse, IsRefusal};
@@ -77,6 +78,7 @@ pub fn compile(
     ensures follows { IfOk result (λ program. OnMagic target (FollowsSome level program net.now)) }
     ensures batched { IfOk result (λ program. OnMagic target (Batched program)) }
     ensures nors { IfOk result (λ program. OnMagic target (length (nor_places program.instrs) ≤ nors_of_two net.now)) }
+    ensures chosen { IfOk result (λ program. OnMagic target (IsChosen level net.now budget program)) }
 
     // For PLiM the cycles are those of the flat graph's gates.
     ensures cycles { IfOk result (λ program. OnPlim target (TakesCycles level program net.now)) }

@@ -1,12 +1,12 @@
 //! A graph becomes a MAGIC program: it is lowered twice, both networks are scheduled, and the shorter program is taken.
-ghost use Rattle.std.specs.Prelude.{◌≡◌, ◌+◌, ◌⊎◌, ◌≤◌, Ok, length, IfErr, IfOk};
+ghost use Rattle.std.specs.Prelude.{◌≡◌, ◌+◌, ◌⊎◌, ◌<◌, ◌≤◌, length, IfErr, IfOk};
 ghost use Rattle.pim_isa.specs.declared.draft.TheConstants.{MAX_CELLS};
 ghost use Rattle.pim_isa.specs.declared.target.Target.TheVariants as target_is;
 ghost use Rattle.pim_nor.specs.Lowered.{nors};
 ghost use Rattle.pim_nor.specs.Network.{nor_count};
 ghost use Rattle.pim_simpler.specs.Needs.{needed_of};
 ghost use Rattle.pim_compile.specs.Networks.{coarse_of, need_of};
-ghost use Rattle.pim_compile.specs.inner.Candidates.{IsCandidate, IsMagic, IsScarce, IsShortOf, IsUnfitFor};
+ghost use Rattle.pim_compile.specs.inner.Candidates.{IsMagic, IsOfWidth, IsOneOf, IsScarce, IsShortOf, IsUnfitFor};
 
 use crate::Refusal;
 use pim_aig::Aig;
@@ -64,7 +64,7 @@ fn candidate(
     requires inputs { length ports.now.inputs ≡ aig.now.inputs }
     requires outputs { length ports.now.outputs ≡ length aig.now.outputs }
     requires within { budget ≤ MAX_CELLS }
-    ensures fits { IfOk result (IsCandidate aig.now ports.now width budget) }
+    ensures fits { IfOk result (IsOfWidth aig.now ports.now width budget) }
     ensures unfit { IfErr result (IsUnfitFor aig.now width budget) }
 {
     let network = lower(alloc, aig, width)?;
@@ -76,7 +76,7 @@ fn chosen(
     four: Result<Program, pim_simpler::Refusal>,
     two: Result<Program, pim_simpler::Refusal>,
 ) -> Result<Program, Refusal>
-    ensures one { IfOk result (λ program. (four ≡ Ok program) ⊎ (two ≡ Ok program)) }
+    ensures one { IfOk result (IsOneOf four two) }
     ensures short { IfErr result (IsShortOf four two) }
 {
     match (four, two) {
@@ -95,9 +95,8 @@ fn chosen(
 
 /// The program with fewer cycles, and the first one if they have as many.
 fn shorter(first: Program, second: Program) -> Program
-    ensures one { (result ≡ first) ⊎ (result ≡ second) }
-    ensures no_longer { length result.instrs ≤ length first.instrs }
-    ensures least { length result.instrs ≤ length second.instrs }
+    ensures { ((result ≡ first) × (length first.instrs ≤ length second.instrs))
+        ⊎ ((result ≡ second) × (length second.instrs < length first.instrs)) }
 {
     if second.instrs().len() < first.instrs().len() {
         second

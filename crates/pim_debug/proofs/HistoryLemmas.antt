@@ -72,7 +72,7 @@ pub taken_back-push : ExecLaws → (k : ℕ) (is : List Instr) (i : Instr) (log 
 taken_back-push laws k is i log m here =
     let saved : List Bool = map (bit m) (writes i) in
     let long : kept (writes i) (log ++ saved) ≡ length log =
-        omega (arith, length-append log saved, length-map (writes i) (bit m)) in
+    omega (arith, length-append log saved, length-map (writes i) (bit m)) in
     taken_back-step k is i (log ++ saved) (step m i) here
     ∙ ap (λ (n : ℕ). taken_back k is (take n (log ++ saved)) (put (writes i) (drop n (log ++ saved)) (step m i))) long
     ∙ rw (take-append_seam log saved, drop-append_seam log saved, undone laws i m) refl
@@ -125,21 +125,23 @@ history_pop laws p start row log k i h here =
     let all : log ≡ before ++ saved = h.logged ∙ overwritten-suc k p.instrs i start here in
     let now : row ≡ step old i = h.stands ∙ exec_k-suc k p.instrs i start here in
     let size : length log ≡ length before + length (writes i) =
-        omega (arith, ap length all, length-append before saved, length-map (writes i) (bit old)) in
+    omega (arith, ap length all, length-append before saved, length-map (writes i) (bit old)) in
     let long : kept (writes i) log ≡ length before = omega (arith, size) in
     let front : take (kept (writes i) log) log ≡ before =
-        ap (λ (n : ℕ). take n log) long ∙ ap (take (length before)) all ∙ take-append_seam before saved in
+    ap (λ (n : ℕ). take n log) long ∙ ap (take (length before)) all ∙ take-append_seam before saved in
     let end : drop (kept (writes i) log) log ≡ saved =
-        ap (λ (n : ℕ). drop n log) long ∙ ap (drop (length before)) all ∙ drop-append_seam before saved in
+    ap (λ (n : ℕ). drop n log) long ∙ ap (drop (length before)) all ∙ drop-append_seam before saved in
     let undo : put (writes i) (drop (kept (writes i) log) log) row ≡ old =
-        ap (λ (bits : List Bool). put (writes i) bits row) end ∙ ap (put (writes i) saved) now ∙ undone laws i old in
-    (omega (arith, size), record {
-      valid = h.valid;
-      within = omega (arith, h.within);
-      cells = ap length undo ∙ sym (laws.keeps_length (i ∷ []) old) ∙ sym (ap length now) ∙ h.cells;
-      stands = undo;
-      logged = front;
-    })
+    ap (λ (bits : List Bool). put (writes i) bits row) end ∙ ap (put (writes i) saved) now ∙ undone laws i old in (
+      omega (arith, size),
+      record {
+        valid = h.valid;
+        within = omega (arith, h.within);
+        cells = ap length undo ∙ sym (laws.keeps_length (i ∷ []) old) ∙ sym (ap length now) ∙ h.cells;
+        stands = undo;
+        logged = front;
+      },
+    )
 
 -- the same in the words of a history, whose start is what its log leads back to
 pub went_forward : ExecLaws → (p : ProgramView) (row log : List Bool) (k : ℕ) (i : Instr) (row' log' : List Bool) →
@@ -149,7 +151,7 @@ pub went_forward : ExecLaws → (p : ProgramView) (row log : List Bool) (k : ℕ
     × IsHistory p (taken_back (k + 1) p.instrs log' row') row' log' (k + 1)
 went_forward laws p row log k i row' log' h here stepped saved =
     let same : taken_back (k + 1) p.instrs log' row' ≡ taken_back k p.instrs log row =
-        rw (stepped, saved) (taken_back-push laws k p.instrs i log row here) in
+    rw (stepped, saved) (taken_back-push laws k p.instrs i log row here) in
     (same, rw (same, stepped, saved) (history_push laws p (taken_back k p.instrs log row) row log k i h here))
 
 pub went_back : ExecLaws → (p : ProgramView) (row log : List Bool) (n k : ℕ) (i : Instr) (cells : List ℕ) (size : ℕ) (row' log' : List Bool) →
@@ -162,22 +164,23 @@ pub went_back : ExecLaws → (p : ProgramView) (row log : List Bool) (n k : ℕ)
 went_back laws p row log n k i cells size row' log' next h here named all restored cut =
     let place : size - length cells ≡ kept (writes i) log = rw (named, all) refl in
     let row_is : row' ≡ put (writes i) (drop (kept (writes i) log) log) row =
-        restored
-        ∙ ap (λ (x : ℕ). put cells (take (length log - x) (drop x log)) row) place
-        ∙ ap (λ (bits : List Bool). put cells bits row) (take_rest log (kept (writes i) log))
-        ∙ ap (λ (cs : List ℕ). put cs (drop (kept (writes i) log) log) row) named in
+    restored
+    ∙ ap (λ (x : ℕ). put cells (take (length log - x) (drop x log)) row) place
+    ∙ ap (λ (bits : List Bool). put cells bits row) (take_rest log (kept (writes i) log))
+    ∙ ap (λ (cs : List ℕ). put cs (drop (kept (writes i) log) log) row) named in
     let log_is : log' ≡ take (kept (writes i) log) log = cut ∙ ap (λ (x : ℕ). take x log) place in
     let h' : IsHistory p (taken_back (k + 1) p.instrs log row) row log (k + 1) =
-        subst (λ (x : ℕ). IsHistory p (taken_back x p.instrs log row) row log x) next h in
+    subst (λ (x : ℕ). IsHistory p (taken_back x p.instrs log row) row log x) next h in
     let same : taken_back k p.instrs log' row' ≡ taken_back (k + 1) p.instrs log row =
-        rw (row_is, log_is) (sym (taken_back-step k p.instrs i log row here)) in
-    (same ∙ ap (λ (x : ℕ). taken_back x p.instrs log row) (sym next),
-    rw (same, row_is, log_is) (history_pop laws p (taken_back (k + 1) p.instrs log row) row log k i h' here).1)
+    rw (row_is, log_is) (sym (taken_back-step k p.instrs i log row here)) in (
+      same ∙ ap (λ (x : ℕ). taken_back x p.instrs log row) (sym next),
+      rw (same, row_is, log_is) (history_pop laws p (taken_back (k + 1) p.instrs log row) row log k i h' here).1,
+    )
 
 -- the log has an entry for each cell that the last instruction wrote
 pub log_reaches : ExecLaws → (p : ProgramView) (row log : List Bool) (n k : ℕ) (i : Instr) → n ≡ k + 1 →
     IsHistory p (taken_back n p.instrs log row) row log n → slice_get p.instrs k ≡ Some i → length (writes i) ≤ length log
 log_reaches laws p row log n k i next h here =
     let h' : IsHistory p (taken_back (k + 1) p.instrs log row) row log (k + 1) =
-        subst (λ (x : ℕ). IsHistory p (taken_back x p.instrs log row) row log x) next h in
+    subst (λ (x : ℕ). IsHistory p (taken_back x p.instrs log row) row log x) next h in
     (history_pop laws p (taken_back (k + 1) p.instrs log row) row log k i h' here).0

@@ -72,7 +72,7 @@ pub any_counts : (k : ℕ) (stops : List (Option ℕ)) → list_any (stands_at k
 any_counts k [] = refl
 any_counts k (x ∷ xs) =
     let more : count_by (stands_at k) (x ∷ xs) ≡ tally k x + count_by (stands_at k) xs =
-        sum_by-cons (λ (y : Option ℕ). cond (stands_at k y) 1 0) x xs in
+    sum_by-cons (λ (y : Option ℕ). cond (stands_at k y) 1 0) x xs in
     elim (cases_Bool (stands_at k x)) [
       | inl here ↦
           let one : tally k x ≡ 1 = cond-true (stands_at k x) 1 0 here in
@@ -103,7 +103,7 @@ pub counts_some : (counts : List ℕ) (stops : List (Option ℕ)) (n k : ℕ) �
     0 < get_or counts k 0
 counts_some counts stops n k h here =
     let part : tally k (stop_of stops n) ≤ count_by (stands_at k) stops =
-        part_counts (tally k) refl stops n in
+    part_counts (tally k) refl stops n in
     omega (arith, part, stands_there k (stop_of stops n) here, h.counted k (h.within n k here))
 
 -- the counts when one more is set
@@ -123,14 +123,14 @@ counts_set counts stops stops' n k c h small more free here same = record {
     by_cases : (j : ℕ) → j < length counts → (k ≡ j) ⊎ (k ≢ j) → get_or (set counts k c) j 0 ≡ count_by (stands_at j) stops'
     by_cases j fits (inl e) =
         let whole : count_by (stands_at k) stops' ≡ count_by (stands_at k) stops + tally k (stop_of stops' n) =
-            count_more k stops stops' n free same in
+        count_more k stops stops' n free same in
         let now : c ≡ count_by (stands_at k) stops' = omega (arith, more, whole, stands_there k (stop_of stops' n) here, h.counted k small) in
         subst (λ (x : ℕ). get_or (set counts k c) x 0 ≡ count_by (stands_at x) stops') e (get_or-set_same counts k c 0 small ∙ now)
     by_cases j fits (inr other) =
         let whole : count_by (stands_at j) stops' ≡ count_by (stands_at j) stops + tally j (stop_of stops' n) =
-            count_more j stops stops' n free same in
+        count_more j stops stops' n free same in
         let kept : count_by (stands_at j) stops ≡ count_by (stands_at j) stops' =
-            omega (arith, whole, stands_elsewhere j k (stop_of stops' n) here other) in
+        omega (arith, whole, stands_elsewhere j k (stop_of stops' n) here other) in
         get_or-set_other counts k j c 0 (λ e. other (sym e)) ∙ h.counted j fits ∙ kept
 
 -- the counts when one is taken away
@@ -151,14 +151,14 @@ counts_taken counts stops stops' n k c h less here free same = record {
     by_cases : (j : ℕ) → j < length counts → (k ≡ j) ⊎ (k ≢ j) → get_or (set counts k c) j 0 ≡ count_by (stands_at j) stops'
     by_cases j fits (inl e) =
         let whole : count_by (stands_at k) stops ≡ count_by (stands_at k) stops' + tally k (stop_of stops n) =
-            count_more k stops' stops n free (λ m other. sym (same m other)) in
+        count_more k stops' stops n free (λ m other. sym (same m other)) in
         let now : c ≡ count_by (stands_at k) stops' = omega (arith, less, whole, stands_there k (stop_of stops n) here, h.counted k small) in
         subst (λ (x : ℕ). get_or (set counts k c) x 0 ≡ count_by (stands_at x) stops') e (get_or-set_same counts k c 0 small ∙ now)
     by_cases j fits (inr other) =
         let whole : count_by (stands_at j) stops ≡ count_by (stands_at j) stops' + tally j (stop_of stops n) =
-            count_more j stops' stops n free (λ m o. sym (same m o)) in
+        count_more j stops' stops n free (λ m o. sym (same m o)) in
         let kept : count_by (stands_at j) stops ≡ count_by (stands_at j) stops' =
-            omega (arith, whole, stands_elsewhere j k (stop_of stops n) here other) in
+        omega (arith, whole, stands_elsewhere j k (stop_of stops n) here other) in
         get_or-set_other counts k j c 0 (λ e. other (sym e)) ∙ h.counted j fits ∙ kept
 
 -- an entry of the slab as a breakpoint
@@ -216,12 +216,12 @@ next_stop-last last at stops below e = by_cases (cases_Bool (has_stop (at + 1) s
         let done : last - (at + 1) ≡ 0 = omega arith in
         next_stop-on last at stops below none ∙ ap (λ (n : ℕ). next_stop n (at + 1) stops) done
 
-pub running_step : (last before at at' : ℕ) (stops : List (Option ℕ)) (is_there : Bool) →
-    IsRunning last before at stops false → at' ≡ at + 1 → is_there ≡ (eqb at' last || has_stop at' stops) →
+pub running_step : (last before at at' : ℕ) (stops : List (Option ℕ)) (was_there is_there : Bool) →
+    IsRunning last before at stops was_there → was_there ≡ false → at' ≡ at + 1 → is_there ≡ (eqb at' last || has_stop at' stops) →
     IsRunning last before at' stops is_there
-running_step last before at at' stops is_there h next test =
-    let below : at < last = h.going refl in
-    let same : next_stop (last - at) at stops ≡ next_stop (last - before) before stops = h.left refl in
+running_step last before at at' stops was_there is_there h on next test =
+    let below : at < last = h.going on in
+    let same : next_stop (last - at) at stops ≡ next_stop (last - before) before stops = h.left on in
     record {
       above = omega (arith, h.above);
       within = omega arith;

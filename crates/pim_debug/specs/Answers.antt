@@ -1,5 +1,5 @@
 -- What a session answers to a command, by the state that it is in.
-use Rattle.std.specs.Prelude.{◌≡◌, ◌≢◌, ℕ, zero, suc, ◌+◌, ◌-◌, nat_lt, nat_le, Bool, if◌then◌else◌, List, length, map, Option, Some, None, slice_set, is_some}
+use Rattle.std.specs.Prelude.{◌≡◌, ◌≢◌, ℕ, zero, suc, ◌+◌, ◌-◌, nat_lt, Bool, if◌then◌else◌, List, length, map, Option, Some, None, slice_set, is_some}
 use Rattle.pim_isa.specs.Steps.{bit}
 use Rattle.pim_debug.specs.declared.command.Command.{Command}
 use Rattle.pim_debug.specs.declared.command.Command.TheVariants as command

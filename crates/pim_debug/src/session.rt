@@ -54,10 +54,10 @@ impl<'a> Session<'a> {
     ) -> Result<Session<'a>, NoMemory>
         requires { length vector.now ≡ length program.now.inputs }
         ensures { IfOk result (λ s. s ≡ record {
-            program = program.now;
-            start = load program.now fill vector.now;
-            state = record { at = 0; stops = [] };
-          }) }
+          program = program.now;
+          start = load program.now fill vector.now;
+          state = record { at = 0; stops = [] };
+        }) }
     {
         let history = History::new(alloc, program, vector, fill)?;
         let stops = Stops::new(alloc, program.instrs().len() + 1)?;

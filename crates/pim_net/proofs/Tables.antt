@@ -1,10 +1,8 @@
 -- How a table of drivers is filled.
-use Rattle.std.proofs.Common.{◌≡◌, ◌≢◌, ℕ, suc, ◌+◌, ◌<◌, ◌≤◌, ◌++◌, ◌||◌, ◌==◌, Bool, true, false, not, eqb, cond, List, [], ◌∷◌, Option, Some, None, All, length, get_or, set, refl, ap, sym, ◌∙◌, subst, arith, ⊎_elim, take, drop}
+use Rattle.std.proofs.Common.{◌≡◌, ◌≢◌, ℕ, suc, ◌+◌, ◌<◌, ◌≤◌, ◌++◌, ◌||◌, ◌==◌, Bool, true, false, not, eqb, cond, List, [], ◌∷◌, Option, Some, None, length, get_or, refl, ap, sym, ◌∙◌, subst, arith, ⊎_elim, take, drop}
 use Rattle.std.specs.Prelude.{is_some, option_map}
 use Rattle.std.specs.Option.{option_or}
-use Rattle.std.proofs.lemmas.List.{get_or-set_same, get_or-set_other, length-set, take_more, drop_more, length-take-le, append-nil, append_assoc, take_all, drop_all, get_or_past}
-use Rattle.std.proofs.lemmas.List.Elements.{All-head, All-tail}
-use Rattle.std.proofs.lemmas.Bool.{cases_lt}
+use Rattle.std.proofs.lemmas.List.{take_more, drop_more, length-take-le, append-nil, append_assoc, take_all, drop_all}
 use mathlib.Core.Path.{fun_ext}
 use Rattle.pim_net.specs.Tables.{put}
 use Rattle.std.proofs.lemmas.Bool.Decides.{eqb_tells}

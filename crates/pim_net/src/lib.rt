@@ -2,7 +2,6 @@
 //! driver and a depth, with its equations ordered by depth, or the first fault with its evidence.
 #![tactic(auto)]
 
-mod count;
 mod cover;
 mod draft;
 mod driver;

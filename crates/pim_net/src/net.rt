@@ -2,7 +2,6 @@ ghost use Rattle.std.specs.Prelude.{◌≡◌, ◌<◌, ◌≤◌, ◌⊎◌, �
 ghost use Rattle.pim_io.specs.Names.{label};
 ghost use Rattle.pim_net.specs.Labels.{IsName};
 
-use crate::count::signal_count;
 use crate::judge::judge;
 use crate::{Draft, Equation, Names, NetFault, OutRef};
 use std::alloc::Global;
@@ -129,18 +128,6 @@ impl Net {
         ensures same { label result.now ≡ result.now }
     {
         self.output_labels.get(k)
-    }
-
-    /// One more than the greatest signal that is driven or read, 0 where there is none. Linear in the parts.
-    pub fn signal_count(&self) -> usize
-        ensures inputs { All (λ s. s < result) self.now.inputs }
-        ensures equations { All (λ e. e.sig < result) self.now.equations }
-        ensures columns { All (λ e. All (λ s. s < result) e.cover.ins) self.now.equations }
-        ensures outputs { All (λ o. o.sig < result) self.now.outputs }
-        ensures least { (n : ℕ) → All (λ s. s < n) self.now.inputs → All (λ e. e.sig < n) self.now.equations
-            → All (λ e. All (λ s. s < n) e.cover.ins) self.now.equations → All (λ o. o.sig < n) self.now.outputs → result ≤ n }
-    {
-        signal_count(&self.inputs, &self.equations, &self.outputs)
     }
 
     /// The numbers of the equations, by depth and then in order.

@@ -8,7 +8,11 @@ use crate::{Equation, OutRef, SignalTable};
 
 /// The first signal that is read and that the table gives nobody: by equations and their columns in order, and then by
 /// outputs in order. Linear in the columns and the outputs.
-pub(crate) fn undriven(equations: &[Equation], outputs: &[OutRef], table: &SignalTable<Driver>) -> Option<u32>
+pub(crate) fn undriven(
+    equations: &[Equation],
+    outputs: &[OutRef],
+    table: &SignalTable<Driver>,
+) -> Option<u32>
     ensures { result ≡ find (λ s. is_nobody (values table.now s)) (read equations.now outputs.now) }
 {
     'equations: for equation in equations {

@@ -2,6 +2,7 @@
 use Rattle.std.specs.Prelude.{◌≡◌, ℕ, ◌+◌, ◌^◌, ◌<◌, Bool, true, ◌==◌, ◌&&◌, not, nat_lt, List, [], ◌∷◌, ◌++◌, length, codes, decimal, Option, Some}
 use Rattle.std.specs.List.{list_all, join_with_byte, AllByRecursion}
 use Rattle.pim_io.specs.Lines.{LineView, lines_after}
+use Rattle.pim_io.specs.Names.{IsLabel, is_label}
 use Rattle.pim_io.specs.Words.{number_of}
 use Rattle.pim_isa.specs.declared.target.Target.{Target}
 use Rattle.pim_isa.specs.declared.port.Port.{Port}
@@ -14,12 +15,13 @@ use Rattle.pim_text.specs.InstrForms.{instr_of_words, instr_of}
 use Rattle.pim_text.specs.Spelled.{HasLine, HasPortLine, HasLines}
 use Rattle.pim_text.specs.Text.{instr_text, instr_words, target_line, port_line}
 
--- Each line is read as what it spells.
+-- Each line is read as what it spells, and a label is found to be one.
 pub record ReadLines : Type 0 where
   pub target : (target : Target) → target_of (target_line target) ≡ Some target
   pub counted : (word : List ℕ) (n : ℕ) → n < 2 ^ 32 → counted_of word (word ++ decimal n) ≡ Some n
   pub port : (word : List ℕ) (port : Port) → HasPortLine port → port_of word (port_line word port) ≡ Some port
   pub instr : (i : Instr) → HasLine i → instr_of (instr_text i) ≡ Some i
+  pub label : (text : List ℕ) → IsLabel text → is_label text ≡ true
 
 -- No other line is.
 pub record OneLine : Type 0 where

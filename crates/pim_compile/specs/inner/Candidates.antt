@@ -1,5 +1,5 @@
 -- Inner. What is known of a candidate: the program of one graph or network, or why there is none.
-use Rattle.std.specs.Prelude.{◌≡◌, ◌⊎◌, ℕ, ◌+◌, ◌<◌, ◌≤◌, length, map, min, Option, Some, None, IsSomeAnd, Result, Ok, Err}
+use Rattle.std.specs.Prelude.{◌≡◌, ◌⊎◌, ℕ, ◌+◌, ◌-◌, ◌<◌, ◌≤◌, length, map, min, Option, Some, None, IsSomeAnd, Result, Ok, Err}
 use Rattle.pim_aig.specs.Graph.{AigView}
 use Rattle.pim_aig.specs.Values.{aval}
 use Rattle.pim_isa.specs.PortLists.{labels_of}
@@ -33,16 +33,24 @@ pub record IsProgramOf (g : AigView) (ports : PortsView) (target : Target) (budg
   pub primed : IsPrimed p.instrs
 
 -- the MAGIC program of a graph's network of one width
-pub record IsCandidate (g : AigView) (ports : PortsView) (width : Width) (budget : ℕ) (p : ProgramView) : Type 0 where
+pub record IsOfWidth (g : AigView) (ports : PortsView) (width : Width) (budget : ℕ) (p : ProgramView) : Type 0 where
   pub program : IsProgramOf g ports Magic budget p
   pub follows : FollowsNetwork p (nors g width)
   pub batched : Batched p
+  pub wide : p.cells ≡ g.inputs + min (budget - g.inputs) (length (nors g width).gates)
   pub few_nors : length (nor_places p.instrs) ≤ nor_count (nors g Two).gates
   pub enough : needed_of (nors g width) ≤ budget
 
--- the MAGIC program of one of a graph's networks
+-- where the network of this width fits the budget, a program of it takes so many cycles or more
+abbrev pub IsNoShorter : AigView → PortsView → Width → ℕ → ℕ → Type 0
+IsNoShorter g ports width budget cycles =
+    needed_of (nors g width) ≤ budget → (q : ProgramView) × IsOfWidth g ports width budget q × (cycles ≤ length q.instrs)
+
+-- the MAGIC program of one of a graph's networks, of which the other's is no shorter, or longer where it comes first
 abbrev pub IsMagic : AigView → PortsView → ℕ → ProgramView → Type 0
-IsMagic g ports budget p = IsCandidate g ports Four budget p ⊎ IsCandidate g ports Two budget p
+IsMagic g ports budget p =
+    (IsOfWidth g ports Four budget p × IsNoShorter g ports Two budget (length p.instrs))
+    ⊎ (IsOfWidth g ports Two budget p × IsNoShorter g ports Four budget (length p.instrs + 1))
 
 -- the PLiM program of a graph as it is
 pub record IsBase (g : AigView) (ports : PortsView) (budget : ℕ) (p : ProgramView) : Type 0 where
@@ -75,6 +83,16 @@ pub record IsUnfit (g : AigView) (width : Width) (budget needed : ℕ) : Type 0 
 abbrev pub IsUnfitFor : AigView → Width → ℕ → Refusal → Type 0
 IsUnfitFor g width budget (TooFewCells needed) = IsUnfit g width budget needed
 IsUnfitFor g width budget NoMemory = Unit {0}
+
+-- which of two candidates is taken: the shorter, the first where they are as long, and the one that fits where the other doesn't
+abbrev pub IsOneOf : Result ProgramView Refusal → Result ProgramView Refusal → ProgramView → Type 0
+IsOneOf (Ok four) (Ok two) p =
+    ((p ≡ four) × (length four.instrs ≤ length two.instrs)) ⊎ ((p ≡ two) × (length two.instrs < length four.instrs))
+IsOneOf (Ok four) (Err (TooFewCells needed)) p = p ≡ four
+IsOneOf (Ok four) (Err NoMemory) p = ⊥
+IsOneOf (Err (TooFewCells needed)) (Ok two) p = p ≡ two
+IsOneOf (Err NoMemory) (Ok two) p = ⊥
+IsOneOf (Err first) (Err second) p = ⊥
 
 -- how many cells a candidate lacks the room for, if it does
 abbrev pub asked : Result ProgramView Refusal → Option ℕ

@@ -1,4 +1,4 @@
-use Rattle.std.proofs.Common.{◌≡◌, ◌⊎◌, ℕ, Option, Some, Ok, Err, sym, ap, ◌∙◌, inl, inr}
+use Rattle.std.proofs.Common.{◌≡◌, ◌⊎◌, Option, Some, Ok, Err, sym, ap, ◌∙◌, inl, inr}
 use Rattle.pim_net.specs.Netlist.{DraftView}
 use Rattle.pim_net.specs.Faults.{signals_of}
 use Rattle.pim_net.specs.declared.fault.NetFault.{NetFault}

@@ -1,11 +1,9 @@
-use Rattle.std.proofs.Common.{◌≡◌, ◌+◌, ◌<◌, ℕ, List, length, get_or, ap, sym, ◌∙◌, subst, inr}
-use Rattle.std.specs.Prelude.{find, IsPermutation}
+use Rattle.std.proofs.Common.{◌≡◌, ◌+◌, ◌<◌, ℕ, List, length, get_or, sym, ◌∙◌, subst, inr}
+use Rattle.std.specs.Prelude.{IsPermutation}
 use Rattle.std.specs.List.{range_with_len}
 use Rattle.std.proofs.lemmas.Result.{err_from_is_err_and}
 use Rattle.pim_net.specs.Cycles.{IsCycle}
-use Rattle.pim_net.specs.Drivers.{read}
-use Rattle.pim_net.specs.inner.Drivers.{is_nobody}
-use Rattle.pim_net.specs.inner.DepthFirst.{IsWired, IsLevelled, IsBefore, IsCycleFault}
+use Rattle.pim_net.specs.inner.DepthFirst.{IsBefore, IsCycleFault}
 use Rattle.pim_net.specs.declared.driver.Driver.{Driver}
 use Rattle.pim_net.specs.declared.fault.NetFault.{NetFault}
 use Rattle.pim_net.specs.declared.fault.NetFault.TheVariants.{Twice, Undriven, Cycle, NoMemory}

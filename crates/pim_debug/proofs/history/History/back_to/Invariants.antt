@@ -1,4 +1,4 @@
-use Rattle.std.proofs.Common.{◌≡◌, ◌≤◌, ℕ}
+use Rattle.std.proofs.Common.{◌≡◌, ◌≤◌}
 use Rattle.pim_debug.proofs.history.History.back_to.Given as goal
 
 -- not further back than that, and nothing else changes

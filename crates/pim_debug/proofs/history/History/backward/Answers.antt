@@ -1,4 +1,4 @@
-use Rattle.std.proofs.Common.{◌≡◌, ℕ, ◌+◌, ◌-◌, ◌≤◌, Bool, List, Some, length, arith, ap}
+use Rattle.std.proofs.Common.{◌≡◌, ◌+◌, ◌-◌, ◌≤◌, Bool, List, Some, length, arith, ap}
 use Rattle.std.specs.Prelude.{slice_get}
 use Rattle.std.proofs.lemmas.Grind.{common_steps}
 use Rattle.std.proofs.lemmas.Option.{gets}
@@ -12,8 +12,8 @@ overflow_sub-kept c =
     let here : slice_get c.self.inside.program.now.instrs (c.self.inside.at - 1) ≡ Some c.index-instrs-self.result = grind (arith, common_steps, gets) in
     let next : c.self.inside.at ≡ c.self.inside.at - 1 + 1 = grind (arith, common_steps) in
     let reach : length (writes c.index-instrs-self.result) ≤ length c.self.inside.log.items =
-        log_reaches c.laws.ensures.exec c.self.inside.program.now c.self.inside.row c.self.inside.log.items c.self.inside.at (c.self.inside.at - 1)
-        c.index-instrs-self.result next c.self.invariant here in
+    log_reaches c.laws.ensures.exec c.self.inside.program.now c.self.inside.row c.self.inside.log.items c.self.inside.at (c.self.inside.at - 1)
+    c.index-instrs-self.result next c.self.invariant here in
     rw c.writes-cells.ensures (omega (arith, reach, c.self.inside.log.ok.0, c.len.ensures))
 
 -- the start is the same, and the row and the log are those of one instruction less
@@ -21,8 +21,8 @@ went : (c : goal.After-truncate) →
     (taken_back (c.self.inside.at - 1) c.self.inside.program.now.instrs c.truncate.new.self.items c.restore.new.row
     ≡ taken_back c.self.inside.at c.self.inside.program.now.instrs c.self.inside.log.items c.self.inside.row)
     × IsHistory c.self.inside.program.now
-      (taken_back (c.self.inside.at - 1) c.self.inside.program.now.instrs c.truncate.new.self.items c.restore.new.row)
-      c.restore.new.row c.truncate.new.self.items (c.self.inside.at - 1)
+    (taken_back (c.self.inside.at - 1) c.self.inside.program.now.instrs c.truncate.new.self.items c.restore.new.row)
+    c.restore.new.row c.truncate.new.self.items (c.self.inside.at - 1)
 went c =
     let here : slice_get c.self.inside.program.now.instrs (c.self.inside.at - 1) ≡ Some c.index-instrs-self.result = grind (arith, common_steps, gets) in
     let next : c.self.inside.at ≡ c.self.inside.at - 1 + 1 = grind (arith, common_steps) in

@@ -1,4 +1,4 @@
-use Rattle.std.proofs.Common.{◌≡◌, ℕ, ◌-◌}
+use Rattle.std.proofs.Common.{◌≡◌, ◌-◌}
 use Rattle.pim_debug.proofs.StopLemmas.{IsRunning}
 use Rattle.pim_debug.proofs.session.Session.run.Given as goal
 
