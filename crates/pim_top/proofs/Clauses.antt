@@ -6,7 +6,7 @@ use Rattle.pim_words.specs.Reading.{command_said, is_usage}
 use Rattle.pim_words.specs.declared.command.Command.{Command}
 use Rattle.pim_words.specs.declared.command.Command.TheVariants.{Debug, Run}
 use Rattle.pim_top.specs.Calls.{Ends, FileIsFine, HasWritten, IsCalm, IsDecided, IsDone, IsFileDecided, IsIdle, IsObeyed, IsRefused, Obeys}
-use Rattle.pim_top.specs.Reads.{IsApart, OfBytes, Tells, executes_rows, reads, streams}
+use Rattle.pim_top.specs.Reads.{IsApart, OfBytes, OfInput, Tells, executes_rows, reads, streams}
 use Rattle.pim_top.specs.Statuses.{answer_status, refusal_status}
 use Rattle.pim_top.specs.Streams.{IsUntouched, Seen}
 use Rattle.pim_top.specs.commands.Run.{run_of}
@@ -23,7 +23,7 @@ use Rattle.pim_top.proofs.Wholes.{whole-decided, whole-done, whole-file, whole-n
 
 -- ---- of one command
 abbrev Wrote : Command → Seen → Type 0
-Wrote c seen = OfBytes (reads c origin.Program) seen.program (λ file. OfBytes (reads c origin.Input) seen.input (λ input. Told seen.output.before seen.output.now (λ before after. HasWritten c file input before after)))
+Wrote c seen = OfBytes (reads c origin.Program) seen.program (λ file. OfInput c seen.input (λ input. Told seen.output.before seen.output.now (λ before after. HasWritten c file input before after)))
 
 -- no count rose
 abbrev Steady : Seen → Type 0

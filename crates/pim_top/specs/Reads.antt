@@ -74,3 +74,8 @@ Tells (Some limit) s bytes = s.before ≡ Some bytes
 abbrev pub OfBytes : Option ℕ → Stream → (List ℕ → Type 0) → Type 0
 OfBytes None s P = P []
 OfBytes (Some limit) s P = Told s.before s.now (λ bytes rest. (rest ≡ []) × (length bytes ≤ limit) × P bytes)
+
+-- the same of the input; a command that may end before its input says it of all bytes of it, read or not
+abbrev pub OfInput : Command → Stream → (List ℕ → Type 0) → Type 0
+OfInput (Debug fill) s P = Told s.before s.now (λ bytes rest. P bytes)
+OfInput command s P = OfBytes (reads command Input) s P

@@ -16,7 +16,7 @@ use Rattle.pim_top.proofs.RowsEnds.{FileRefusal, FileRows, early-file, early-rea
 
 pub debug-done : {Y : Type 0} (fill : FillWord) (seen : Seen) (y : Y) (Q : List ℕ → List ℕ → List ℕ → List ℕ → Type 0) →
     ((file input before after text : List ℕ) → after ≡ before ++ text → length file ≤ MAX_PROGRAM → DebugDecides fill file input (Ok text) → Q file input before after) →
-    DebugEnds fill seen (Ok y) → OfBytes (Some MAX_PROGRAM) seen.program (λ file. OfBytes (Some MAX_INPUT) seen.input (λ input. Told seen.output.before seen.output.now (λ before after. Q file input before after)))
+    DebugEnds fill seen (Ok y) → OfBytes (Some MAX_PROGRAM) seen.program (λ file. Told seen.input.before seen.input.now (λ input rest. Told seen.output.before seen.output.now (λ before after. Q file input before after)))
 debug-done fill seen y Q make h = absurd h
 
 pub debug-steady : {Y : Type 0} (fill : FillWord) (seen : Seen) (y : Y) → DebugEnds fill seen (Ok y) → (seen.program.faults_now ≡ seen.program.faults) × (seen.input.faults_now ≡ seen.input.faults) × (seen.output.faults_now ≡ seen.output.faults)

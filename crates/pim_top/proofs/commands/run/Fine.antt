@@ -17,7 +17,7 @@ use Rattle.pim_words.specs.declared.command.FillWord.{FillWord}
 use Rattle.pim_top.specs.Decides.{RowsDecide}
 use Rattle.pim_top.specs.Judged.{first_refusal, input_refusal, is_vector, judged_lines, settled}
 use Rattle.pim_top.specs.Programs.{judged_as, program_of}
-use Rattle.pim_top.specs.Rows.{EndsEarly, IsLoaded, IsUnloaded, RowsEnd}
+use Rattle.pim_top.specs.Rows.{IsUnloaded, RowsEnd}
 use Rattle.pim_top.specs.Statuses.{answer_status}
 use Rattle.pim_top.specs.Streams.{Seen, Stream}
 use Rattle.pim_top.specs.Walks.{ran}
