@@ -1,11 +1,12 @@
 //! `debug`: a program is executed forward and back, as the lines of the input ask.
-ghost use Rattle.std.specs.Prelude.{◌≡◌, ◌+◌, ◌≤◌, ◌++◌, ◌∷◌, [], ℕ, codes, decimal, List, Option, None, Some, true, IfErr, IfOk, OnOk, OnErr};
+ghost use Rattle.std.specs.Prelude.{◌≡◌, ◌+◌, ◌≤◌, ◌++◌, ◌∷◌, [], ℕ, not, length, codes, decimal, List, Option, None, Some, true, IfErr, IfOk, OnOk, OnErr};
 ghost use Rattle.pim_io.specs.Bits.{bits_of};
 ghost use Rattle.pim_io.specs.Outside.{Told, TookAll};
 ghost use Rattle.pim_isa.specs.declared.target.Fill.{Fill};
 ghost use Rattle.pim_words.specs.declared.command.Command.TheVariants as commands;
 ghost use Rattle.pim_debug.specs.States.{SessionView};
-ghost use Rattle.pim_top.specs.Debugging.{DebuggedAll, digit_of, digits_of, longest_of, reply_line};
+ghost use Rattle.pim_top.specs.Debugging.{DebuggedAll, digit_of, digits_of, longest_of, reply_line, session_of};
+ghost use Rattle.pim_top.specs.Judged.{is_vector};
 ghost use Rattle.pim_top.specs.Streams.{seen, stream};
 ghost use Rattle.pim_top.specs.commands.Debug.{DebugEnds};
 ghost use Rattle.pim_top.specs.inner.Faultless.{IsComplete};
@@ -83,17 +84,49 @@ fn begin<'a, S: Source>(
     match lines.next(input) {
         Ok(None) => Err(Refusal::Judged(Judgement::Vector(1))),
         Ok(Some(line)) => {
-            if !vector_fits(line, program.inputs().len() as u32) {
+            if !fits(program, line) {
                 return Err(Refusal::Judged(Judgement::Vector(1)));
             }
-            let vector = bits_of(alloc, line)?;
-            Ok(Session::new(alloc, program, &vector, fill)?)
+            let Ok(session) = session_of(alloc, program, fill, line) else {
+                return Err(Refusal::NoMemory);
+            };
+            Ok(session)
         }
-        Err(LinesFault::Fault) => Err(Refusal::ReadFault(Origin::Input)),
-        Err(LinesFault::Long(line)) => Err(Refusal::Judged(Judgement::Vector(line))),
-        Err(LinesFault::TooMany) => Err(Refusal::Judged(Judgement::TooManyLines)),
-        Err(LinesFault::TooLong) => Err(Refusal::TooLong(Origin::Input)),
+        Err(fault) => Err(of_first(fault)),
     }
+}
+
+/// Whether a line is a vector of the program's inputs.
+fn fits(program: &Program, line: &[u8]) -> bool
+    ensures { result ≡ is_vector (length program.now.inputs) line.now }
+{
+    vector_fits(line, program.inputs().len() as u32)
+}
+
+/// The refusal that the first line comes to.
+fn of_first(fault: LinesFault) -> Refusal
+    ensures { result ≡ debug_refusal None fault }
+{
+    match fault {
+        LinesFault::Fault => Refusal::ReadFault(Origin::Input),
+        LinesFault::Long(line) => Refusal::Judged(Judgement::Vector(line)),
+        LinesFault::TooMany => Refusal::Judged(Judgement::TooManyLines),
+        LinesFault::TooLong => Refusal::TooLong(Origin::Input),
+    }
+}
+
+/// The session of the vector in a line.
+fn session_of<'a>(
+    alloc: Global,
+    program: &'a Program,
+    fill: Fill,
+    line: &[u8],
+) -> Result<Session<'a>, NoMemory>
+    requires { length line.now ≡ length program.now.inputs }
+    ensures { IfOk result (λ session. session ≡ session_of program.now fill (bits_of line.now)) }
+{
+    let vector = bits_of(alloc, line)?;
+    Session::new(alloc, program, &vector, fill)
 }
 
 /// The bits of a line of characters.
@@ -159,14 +192,22 @@ fn obey_line<S: Source, K: Sink>(
     match lines.next(input) {
         Ok(None) => Ok(false),
         Ok(Some(line)) => match session.command(line) {
-            Ok(reply) => {
-                write_reply(alloc, output, &reply)?;
-                Ok(!is_quit(&reply))
-            }
+            Ok(reply) => answer(alloc, output, reply),
             Err(fault) => Err(of_command(number, fault)),
         },
         Err(fault) => Err(of_lines(fault)),
     }
+}
+
+/// Writes a reply. Says whether the session goes on.
+fn answer<K: Sink>(alloc: Global, output: &mut K, reply: Reply) -> Result<bool, Refusal>
+    ensures goes { IfOk result (λ more. more ≡ not (is_quit reply)) }
+    ensures done { OnOk result (TookAll (K.taken output.old) (K.taken output.new) (reply_line reply)) }
+    ensures steady { OnOk result (K.faults output.new ≡ K.faults output.old) }
+    ensures refused { IfErr result (IsUnwrittenReply (reply_line reply) (K.taken output.old) (K.taken output.new) (K.faults output.old) (K.faults output.new)) }
+{
+    write_reply(alloc, output, &reply)?;
+    Ok(!is_quit(&reply))
 }
 
 /// The refusal that a command's fault comes to, by its line.

@@ -1,6 +1,7 @@
 -- The same where the source tells its bytes.
 use Rattle.std.proofs.Common.{◌≡◌, ◌≢◌, ℕ, ◌+◌, ◌<◌, ◌≤◌, ◌⊎◌, not, Bool, true, false, List, [], ◌∷◌, ◌++◌, length, drop, Option, Some, None, Result, Ok, Err, refl, sym, ap, ◌∙◌, subst, arith}
 use Rattle.std.specs.Borrow.{Bor}
+use Rattle.std.specs.Prelude.{IfErr, IfOk, OnOk}
 use Rattle.pim_debug.specs.Answers.{AnswersLine, refusal_of}
 use Rattle.pim_debug.specs.Commands.{command_of}
 use Rattle.pim_debug.specs.States.{SessionView}
@@ -8,7 +9,7 @@ use Rattle.pim_debug.specs.declared.fault.DebugFault.{DebugFault}
 use Rattle.pim_debug.specs.declared.fault.DebugFault.TheVariants as fault
 use Rattle.pim_debug.specs.declared.reply.Reply.{Reply}
 use Rattle.pim_io.specs.Bits.{bits_of}
-use Rattle.pim_io.specs.Outside.{Told, TookAll, TookFirst}
+use Rattle.pim_io.specs.Outside.{Rose, Told, TookAll, TookFirst}
 use Rattle.pim_isa.specs.Programs.{ProgramView}
 use Rattle.pim_isa.specs.declared.target.Fill.{Fill}
 use Rattle.pim_vectors.specs.Lines.{line_len}
@@ -21,7 +22,7 @@ use Rattle.pim_top.specs.Judged.{is_vector}
 use Rattle.pim_top.specs.declared.judgement.Judgement.TheVariants as judgement
 use Rattle.pim_top.specs.declared.refusal.Refusal.{Refusal}
 use Rattle.pim_top.specs.declared.refusal.Refusal.TheVariants as refusal
-use Rattle.pim_top.specs.inner.Sessions.{DebugStops, DebugsOn, IsDebugging, command_refusal, debug_refusal, is_quit}
+use Rattle.pim_top.specs.inner.Sessions.{DebugStops, DebugsOn, IsDebugging, IsOfDebug, IsOfInput, IsUnwrittenReply, command_refusal, debug_refusal, is_quit}
 use Rattle.pim_top.specs.inner.Standing.{first_line}
 use Rattle.pim_top.proofs.WalkStates.{told-both, told-map}
 use Rattle.pim_top.proofs.commands.debug.Lines.{begins, command-answered, command-cut, command-refused, input-ends, input-stops, stop-front, vector-refused, vector-starts}
@@ -50,6 +51,16 @@ said-or : (a b : Option (List ℕ)) (l new : LinesView) (f : LinesFault) → IsA
 said-or None b l new f after said = tt
 said-or (Some x) None l new f after said = absurd after.rest
 said-or (Some x) (Some y) l new f after said = said
+
+abbrev err_of : LinesFault → Result (Option (Bor (List ℕ))) LinesFault
+err_of f = Err f
+
+-- a source that failed leaves too few bytes to judge
+waiting : (a b : Option (List ℕ)) (old new : LinesView) (f : LinesFault) (longest : ℕ) → old.longest ≡ longest → IsAfter old a b (Err f) new → f ≡ faults.Fault →
+    (line_len new.held ≡ length new.held) × (length new.held < longest + 2) × (new.place + length new.held ≤ MAX_INPUT)
+waiting a b old new f longest same after e =
+    let w = after.waits (ap (λ (x : LinesFault). err_of x) e) in
+    (w.none, omega (arith, w.short, after.longest, same), w.within)
 
 -- ---- the first line
 pub begin-none : (a b : Option (List ℕ)) (p : ProgramView) (fill : Fill) (l : LinesView) → l ≡ first_line (longest_of p) → Answer a b l (Ok None) →
@@ -85,7 +96,7 @@ begin-stops a b p fill l new f start after said =
     told-both a b (λ left rest. f ≢ faults.Fault → next_of l (l.held ++ left) ≡ Err f) (Held f l new)
     (λ left rest. (now : Option (List ℕ)) → DebugStops p fill left rest now now (debug_refusal None f))
     (λ left rest s k. λ now. input-stops p fill left left rest now now l new None f (begins p fill left now l start) (λ e. k.0) (λ e. k.1)
-    (λ e. ((after.waits e).none, omega (arith, (after.waits e).short, after.longest, ap (λ (v : LinesView). v.longest) start), (after.waits e).within)) s)
+    (λ e. waiting a b l new f (longest_of p) (ap (λ (v : LinesView). v.longest) start) after e) s)
     (said-or a b l new f after said) (held a b l new f after)
 
 -- ---- a further line
@@ -137,7 +148,7 @@ line-stops a b taken p l new s f longest after said =
     told-both a b (λ left rest. f ≢ faults.Fault → next_of l (l.held ++ left) ≡ Err f) (Held f l new)
     (From p taken l s (λ fill bytes before rest. DebugStops p fill bytes rest before taken (debug_refusal (Some s) f)))
     (λ left rest t k. λ fill bytes before h. input-stops p fill bytes left rest before taken l new (Some s) f h (λ e. k.0) (λ e. k.1)
-    (λ e. ((after.waits e).none, omega (arith, (after.waits e).short, after.longest, longest), (after.waits e).within)) t)
+    (λ e. waiting a b l new f (longest_of p) longest after e) t)
     (said-or a b l new f after said) (held a b l new f after)
 
 -- ---- one line after another
@@ -166,3 +177,77 @@ pub begin-now : (a b mid : Option (List ℕ)) (p : ProgramView) (fill : Fill) (r
 begin-now None b mid p fill r h = tt
 begin-now (Some x) None mid p fill r h = absurd h
 begin-now (Some x) (Some y) mid p fill r h = h mid
+
+-- ---- the answer to a command, and what is left of it
+pub answered-goes : (a b taken now : Option (List ℕ)) (p : ProgramView) (l new : LinesView) (s s' : SessionView) (line : Bor (List ℕ)) (r : Reply) (result : Result Bool Refusal) →
+    IsAfter l a b (Ok (Some line)) new → Answer a b l (Ok (Some line.now)) →
+    refusal_of s (command_of line.now) ≡ None → AnswersLine s (command_of line.now) r s'.state → s' ≡ record s { state = s'.state } →
+    IfOk result (λ more. more ≡ not (is_quit r)) → OnOk result (TookAll taken now (reply_line r)) →
+    IfOk result (λ more. Told a b (From p taken l s (λ fill bytes before rest. DebugsOn more p fill bytes rest before now new (Some s'))))
+answered-goes a b taken now p l new s s' line r (Ok more) after said accepted answers state goes took =
+    subst (λ (x : Bool). Told a b (From p taken l s (λ fill bytes before rest. DebugsOn x p fill bytes rest before now new (Some s')))) (sym goes)
+    (line-answered a b taken now p l new s s' line r (is_quit r) after said accepted answers state refl took)
+answered-goes a b taken now p l new s s' line r (Err e) after said accepted answers state goes took = tt
+
+pub answered-refused : (a b taken now : Option (List ℕ)) (p : ProgramView) (l : LinesView) (s s' : SessionView) (line : List ℕ) (r : Reply) (k k' : ℕ) (result : Result Bool Refusal) →
+    Answer a b l (Ok (Some line)) → refusal_of s (command_of line) ≡ None → AnswersLine s (command_of line) r s'.state → s' ≡ record s { state = s'.state } →
+    IfErr result (IsUnwrittenReply (reply_line r) taken now k k') →
+    IfErr result (λ x. Told a b (From p taken l s (λ fill bytes before rest. DebugStops p fill bytes rest before now x)))
+answered-refused a b taken now p l s s' line r k k' (Ok more) said accepted answers state why = tt
+answered-refused a b taken now p l s s' line r k k' (Err refusal.NoMemory) said accepted answers state why =
+    subst (λ (t : Option (List ℕ)). Told a b (From p taken l s (λ fill bytes before rest. DebuggedFront p fill bytes before t))) (sym why.0)
+    (line-front a b taken p l s (Ok (Some line)) said)
+answered-refused a b taken now p l s s' line r k k' (Err refusal.WriteFault) said accepted answers state why =
+    line-cut a b taken now p l s s' line r said accepted answers state why.0
+answered-refused a b taken now p l s s' line r k k' (Err refusal.Usage) said accepted answers state why = absurd why
+answered-refused a b taken now p l s s' line r k k' (Err (refusal.ReadFault o)) said accepted answers state why = absurd why
+answered-refused a b taken now p l s s' line r k k' (Err (refusal.TooLong o)) said accepted answers state why = absurd why
+answered-refused a b taken now p l s s' line r k k' (Err (refusal.Judged j)) said accepted answers state why = absurd why
+
+pub answered-kinds : (text : List ℕ) (taken now : Option (List ℕ)) (m n k k' : ℕ) (result : Result Bool Refusal) → n ≡ m → IfErr result (IsUnwrittenReply text taken now k k') → IfErr result (IsOfDebug m n k k')
+answered-kinds text taken now m n k k' (Ok more) same why = tt
+answered-kinds text taken now m n k k' (Err refusal.NoMemory) same why = (same, why.1)
+answered-kinds text taken now m n k k' (Err refusal.WriteFault) same why = (same, why.1)
+answered-kinds text taken now m n k k' (Err refusal.Usage) same why = absurd why
+answered-kinds text taken now m n k k' (Err (refusal.ReadFault o)) same why = absurd why
+answered-kinds text taken now m n k k' (Err (refusal.TooLong o)) same why = absurd why
+answered-kinds text taken now m n k k' (Err (refusal.Judged j)) same why = absurd why
+
+-- the counts of faults at a fault of lines
+pub fault-kinds : (session : Option SessionView) (f : LinesFault) (m n : ℕ) → (f ≡ faults.Fault → Rose m n) → (f ≢ faults.Fault → n ≡ m) → IsOfInput m n (debug_refusal session f)
+fault-kinds session faults.Fault m n rose same = rose refl
+fault-kinds None (faults.Long k) m n rose same = same (λ e. cc)
+fault-kinds (Some s) (faults.Long k) m n rose same = same (λ e. cc)
+fault-kinds session faults.TooMany m n rose same = same (λ e. cc)
+fault-kinds session faults.TooLong m n rose same = same (λ e. cc)
+
+pub line-kinds : (s : SessionView) (f : LinesFault) (m n k : ℕ) → (f ≡ faults.Fault → Rose m n) → (f ≢ faults.Fault → n ≡ m) → IsOfDebug m n k k (debug_refusal (Some s) f)
+line-kinds s faults.Fault m n k rose same = (rose refl, refl)
+line-kinds s (faults.Long j) m n k rose same = (same (λ e. cc), refl)
+line-kinds s faults.TooMany m n k rose same = (same (λ e. cc), refl)
+line-kinds s faults.TooLong m n k rose same = (same (λ e. cc), refl)
+
+-- ---- the loop
+pub step-on : (a b c taken mid now : Option (List ℕ)) (p p' : ProgramView) (l m n : LinesView) (s t u : SessionView) (x y : Bool) → x ≡ true → p' ≡ p →
+    Told a b (From p taken l s (λ fill bytes before rest. DebugsOn x p fill bytes rest before mid m (Some t))) →
+    Told b c (From p' mid m t (λ fill bytes before rest. DebugsOn y p' fill bytes rest before now n (Some u))) →
+    Told a c (From p taken l s (λ fill bytes before rest. DebugsOn y p fill bytes rest before now n (Some u)))
+step-on a b c taken mid now p p' l m n s t u x y on same h k =
+    lines-then a b c taken mid p l m s t (λ fill bytes before rest. DebugsOn y p fill bytes rest before now n (Some u))
+    (subst (λ (z : Bool). Told a b (From p taken l s (λ fill bytes before rest. DebugsOn z p fill bytes rest before mid m (Some t)))) on h)
+    (subst (λ (q : ProgramView). Told b c (From q mid m t (λ fill bytes before rest. DebugsOn y q fill bytes rest before now n (Some u)))) same k)
+
+pub step-off : (a b c taken mid now : Option (List ℕ)) (p p' : ProgramView) (l m : LinesView) (s t : SessionView) (x : Bool) (r : Refusal) → x ≡ true → p' ≡ p →
+    Told a b (From p taken l s (λ fill bytes before rest. DebugsOn x p fill bytes rest before mid m (Some t))) →
+    Told b c (From p' mid m t (λ fill bytes before rest. DebugStops p' fill bytes rest before now r)) →
+    Told a c (From p taken l s (λ fill bytes before rest. DebugStops p fill bytes rest before now r))
+step-off a b c taken mid now p p' l m s t x r on same h k =
+    lines-then a b c taken mid p l m s t (λ fill bytes before rest. DebugStops p fill bytes rest before now r)
+    (subst (λ (z : Bool). Told a b (From p taken l s (λ fill bytes before rest. DebugsOn z p fill bytes rest before mid m (Some t)))) on h)
+    (subst (λ (q : ProgramView). Told b c (From q mid m t (λ fill bytes before rest. DebugStops q fill bytes rest before now r))) same k)
+
+pub step-done : (a b taken now : Option (List ℕ)) (p : ProgramView) (l m : LinesView) (s t : SessionView) (x : Bool) → x ≡ false →
+    Told a b (From p taken l s (λ fill bytes before rest. DebugsOn x p fill bytes rest before now m (Some t))) →
+    Told a b (From p taken l s (λ fill bytes before rest. DebuggedAll p fill bytes before now None))
+step-done a b taken now p l m s t x off h =
+    subst (λ (z : Bool). Told a b (From p taken l s (λ fill bytes before rest. DebugsOn z p fill bytes rest before now m (Some t)))) off h
