@@ -1,4 +1,4 @@
-use Rattle.std.proofs.Common.{◌≡◌, ◌^◌, None, Some, subst}
+use Rattle.std.proofs.Common.{◌≡◌, ◌^◌, None, Some, subst, sym}
 use Rattle.pim_prove.specs.inner.Comparing.{IsFound}
 use Rattle.pim_prove.proofs.Refusals.{none_of_not, same_ports}
 use Rattle.pim_prove.proofs.Verdicts.{Compared, different, equal}
@@ -9,7 +9,7 @@ returns-in-None-clause-verdict c =
     let p = c.args.program.now in
     let n = c.args.net.now in
     let g = c.in-Ok.aig in
-    let ports = same_ports p n c.if-ports_differ.ensures.value in
+    let ports = same_ports p n (sym c.if-ports_differ.ensures.value) in
     let compared : Compared p n g = record {
       inputs = ports.0;
       outputs = ports.1;
@@ -25,7 +25,7 @@ returns-clause-verdict c =
     let p = c.args.program.now in
     let n = c.args.net.now in
     let g = c.in-Ok.aig in
-    let ports = same_ports p n c.if-ports_differ.ensures.value in
+    let ports = same_ports p n (sym c.if-ports_differ.ensures.value) in
     let compared : Compared p n g = record {
       inputs = ports.0;
       outputs = ports.1;
