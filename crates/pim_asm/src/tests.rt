@@ -82,7 +82,11 @@ fn judges_names(rt: HostRuntime) -> Result<(), Fail> {
         (4, "let x 2", Some(AsmFault::Name(5))),
         (4, "input not \"i\"", Some(AsmFault::Name(5))),
         (8, "not y 1", Some(AsmFault::Name(9))),
-        (9, "nor 4 4 3", Some(AsmFault::Invalid(Invalid::TargetRead(2)))),
+        (
+            9,
+            "nor 4 4 3",
+            Some(AsmFault::Invalid(Invalid::TargetRead(2))),
+        ),
         (7, "init", Some(AsmFault::Invalid(Invalid::InitList(0)))),
     ] {
         let bytes = and_with(rt.alloc(), place, line)?;
@@ -95,10 +99,19 @@ fn judges_names(rt: HostRuntime) -> Result<(), Fail> {
 /// What ends before the number of cells is told by the line that would come next.
 #[test]
 fn wants_cells(rt: HostRuntime) -> Result<(), Fail> {
-    for (text, line) in [("", 1), ("; one\n", 2), ("target magic", 2), ("target magic\n\n", 3)] {
+    for (text, line) in [
+        ("", 1),
+        ("; one\n", 2),
+        ("target magic", 2),
+        ("target magic\n\n", 3),
+    ] {
         let bytes = text.as_bytes();
         assert!(rt; bytes.len() < 1000);
-        assert_eq!(rt; assemble(rt.alloc(), bytes).err(), Some(AsmFault::Line(line)), "at {text:?}");
+        assert_eq!(rt;
+            assemble(rt.alloc(), bytes).err(),
+            Some(AsmFault::Line(line)),
+            "at {text:?}"
+        );
     }
     Ok(())
 }
@@ -128,7 +141,11 @@ fn lists_labels(rt: HostRuntime) -> Result<(), Fail> {
     assert!(rt; text.len() < 1000);
     let again = assemble(rt.alloc(), &text)?;
     assert_eq!(rt; listing(rt.alloc(), &again)?.as_slice(), text.as_slice());
-    let labels: Vec<&[u8]> = again.inputs().iter().map(|port| port.label.bytes()).collect(rt.alloc())?;
+    let labels: Vec<&[u8]> = again
+        .inputs()
+        .iter()
+        .map(|port| port.label.bytes())
+        .collect(rt.alloc())?;
     assert_eq!(rt; labels.as_slice(), [b"a\"b".as_slice()].as_slice());
     Ok(())
 }
