@@ -1,0 +1,1 @@
+//! Instructions with each cell moved.
