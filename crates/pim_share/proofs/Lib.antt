@@ -1,0 +1,4 @@
+pub mod Moves
+pub mod Frames
+pub mod Laying
+pub mod Shared

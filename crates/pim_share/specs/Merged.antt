@@ -47,14 +47,19 @@ merged parts turns = record {
   instrs = interleave (laid 0 parts) turns;
 }
 
--- the first of these: a part for another target, too few cells, a turn that names no part or a part of which nothing is
--- left, a part of which something is left behind the turns
+-- the first of these: a turn that names no part or a part of which nothing is left, a part of which something is left
+-- behind the turns
+abbrev pub turns_fault : List ProgramView → List ℕ → Option ShareFault
+turns_fault parts turns =
+    option_or (option_map (λ k. faults.Turn k) (bad_turn 0 (laid 0 parts) turns))
+    (option_map (λ j. faults.Missing j) (missing (after_turns (laid 0 parts) turns)))
+
+-- the first of these: a part for another target, too few cells, a fault of the turns
 abbrev pub share_fault : List ProgramView → List ℕ → ℕ → Option ShareFault
 share_fault parts turns budget =
     option_or (option_map (λ j. faults.OtherTarget j) (other_target parts))
     (option_or (if nat_lt budget (needed parts) then Some (faults.TooFewCells (needed parts)) else None)
-    (option_or (option_map (λ k. faults.Turn k) (bad_turn 0 (laid 0 parts) turns))
-    (option_map (λ j. faults.Missing j) (missing (after_turns (laid 0 parts) turns)))))
+    (turns_fault parts turns))
 
 -- the fault, and the program where there is none
 abbrev pub ok_unless : ProgramView → Option ShareFault → Result ProgramView ShareFault

@@ -1,5 +1,5 @@
 -- Turns: each number names the part whose next instruction is executed.
-use Rattle.std.specs.Prelude.{◌≡◌, ℕ, ◌+◌, ◌<◌, ◌==◌, Bool, if◌then◌else◌, is_some, not, List, [], ◌∷◌, ◌++◌, All, count_by, drop, length, option_and_then, option_map, Option, Some, None, slice_get, slice_index_or, slice_set}
+use Rattle.std.specs.Prelude.{◌≡◌, ℕ, ◌+◌, ◌<◌, ◌==◌, Bool, if◌then◌else◌, is_some, not, List, [], ◌∷◌, ◌++◌, All, count_by, drop, length, option_map, Option, Some, None, slice_get, slice_index_or, slice_set}
 use Rattle.std.specs.List.{position}
 use Rattle.std.specs.Option.{option_to_list}
 use Rattle.pim_isa.specs.declared.instr.Instr.{Instr}
@@ -30,7 +30,7 @@ spent = record { base = 0; rest = [] }
 
 -- the instruction of a turn, if the turn names a part and something is left of that
 abbrev pub turn_of : List Left → ℕ → Option Instr
-turn_of parts j = option_and_then next_of (slice_get parts j)
+turn_of parts j = next_of (slice_index_or parts j spent)
 
 -- the parts behind a turn
 abbrev pub after_turn : List Left → ℕ → List Left
