@@ -72,8 +72,8 @@ kept : (P : ℕ → Left → Type 0) (parts : List Left) (j : ℕ) → P j (past
     → (i : ℕ) → i < length (after_turn parts j) → P i (at (after_turn parts j) i)
 kept P parts j here all i low = elim (eqb_tells i j) [
   | inl same ↦
-    let inside : j < length parts = omega (arith, same.1, length-after parts j) in
-    subst (λ (k : ℕ). P k (at (after_turn parts j) k)) (sym same.1) (subst (P j) (sym (after_same parts j inside)) here)
+      let inside : j < length parts = omega (arith, same.1, length-after parts j) in
+      subst (λ (k : ℕ). P k (at (after_turn parts j) k)) (sym same.1) (subst (P j) (sym (after_same parts j inside)) here)
   | inr other ↦ subst (P i) (sym (after_other parts j i other.1)) (all i (omega (arith, length-after parts j)))
 ]
 
@@ -93,17 +93,17 @@ counted (t ∷ turns) parts k fine j low =
     let rest = counted turns (after_turn parts t) (k + 1) turn.1 j (omega (arith, length-after parts t)) in
     elim (eqb_tells t j) [
       | inl same ↦
-        let one : one_if (t == j) ≡ 1 = ap one_if same.0 in
-        let left : length (at parts t).rest ≡ length next.others + 1 = ap length next.is ∙ omega arith in
-        let here : length (at (after_turn parts t) t).rest ≡ length next.others =
-        ap (λ (x : Left). length x.rest) (after_same parts t next.inside) ∙ ap (λ (r : List Instr). length (drop 1 r)) next.is in
-        let there : length (at (after_turn parts t) j).rest ≡ length next.others = subst (λ (n : ℕ). length (at (after_turn parts t) n).rest ≡ length next.others) same.1 here in
-        let whole : length (at parts j).rest ≡ length next.others + 1 = subst (λ (n : ℕ). length (at parts n).rest ≡ length next.others + 1) same.1 left in
-        omega (arith, rest, first, one, there, whole)
+          let one : one_if (t == j) ≡ 1 = ap one_if same.0 in
+          let left : length (at parts t).rest ≡ length next.others + 1 = ap length next.is ∙ omega arith in
+          let here : length (at (after_turn parts t) t).rest ≡ length next.others =
+          ap (λ (x : Left). length x.rest) (after_same parts t next.inside) ∙ ap (λ (r : List Instr). length (drop 1 r)) next.is in
+          let there : length (at (after_turn parts t) j).rest ≡ length next.others = subst (λ (n : ℕ). length (at (after_turn parts t) n).rest ≡ length next.others) same.1 here in
+          let whole : length (at parts j).rest ≡ length next.others + 1 = subst (λ (n : ℕ). length (at parts n).rest ≡ length next.others + 1) same.1 left in
+          omega (arith, rest, first, one, there, whole)
       | inr other ↦
-        let none : one_if (t == j) ≡ 0 = ap one_if other.0 in
-        let there : length (at (after_turn parts t) j).rest ≡ length (at parts j).rest = ap (λ (x : Left). length x.rest) (after_other parts t j (λ e. other.1 (sym e))) in
-        omega (arith, rest, first, none, there)
+          let none : one_if (t == j) ≡ 0 = ap one_if other.0 in
+          let there : length (at (after_turn parts t) j).rest ≡ length (at parts j).rest = ap (λ (x : Left). length x.rest) (after_other parts t j (λ e. other.1 (sym e))) in
+          omega (arith, rest, first, none, there)
     ]
 
 pub turns_named : (turns : List ℕ) (parts : List Left) (k n : ℕ) → length parts ≡ n → bad_turn k parts turns ≡ None → All (λ j. j < n) turns
@@ -138,7 +138,7 @@ module _ (target : Target) (limit : ℕ) (B N : ℕ → ℕ) where
   fits_after parts t next fits = record {
     based = kept (λ j x. x.base ≡ B j) parts t (fits.based t next.inside) fits.based;
     valid = kept (λ j x. All (IsValid target (N j)) x.rest) parts t
-      (All-drop (IsValid target (N t)) 1 (at parts t).rest (fits.valid t next.inside)) fits.valid;
+        (All-drop (IsValid target (N t)) 1 (at parts t).rest (fits.valid t next.inside)) fits.valid;
     room = λ j low. fits.room j (omega (arith, length-after parts t));
     apart = fits.apart;
   }
@@ -194,19 +194,19 @@ module _ (target : Target) (limit : ℕ) (B N : ℕ → ℕ) where
       let P : ℕ → List Bool → Type 0 = λ i v. InWindow (B i) (N i) (exec (interleave (after_turn parts t) turns) after) v in
       let whole : P j (exec (at parts j).rest w) = elim (eqb_tells j t) [
         | inl same ↦
-          let here : InWindow (B t) (N t) m w = subst (λ (i : ℕ). InWindow (B i) (N i) m w) same.1 win in
-          let stepped = step_window (B t) (N t) next.instr m w names_low (omega (arith, fits.room t next.inside)) here in
-          let ended : (at (after_turns (after_turn parts t) turns) t).rest ≡ [] = subst (λ (i : ℕ). (at (after_turns (after_turn parts t) turns) i).rest ≡ []) same.1 done in
-          let left : P t (exec (at (after_turn parts t) t).rest (step w next.instr)) = further t (step w next.instr) (subst (λ (i : ℕ). i < length (after_turn parts t)) same.1 inside) ended stepped in
-          let same_rest : exec (at (after_turn parts t) t).rest (step w next.instr) ≡ exec (at parts t).rest w =
-          ap (λ (is : List Instr). exec is (step w next.instr)) (rest_here parts t next fits) ∙ sym (ap (λ (is : List Instr). exec is w) next.is) in
-          subst (λ (i : ℕ). P i (exec (at parts i).rest w)) (sym same.1) (subst (P t) same_rest left)
+            let here : InWindow (B t) (N t) m w = subst (λ (i : ℕ). InWindow (B i) (N i) m w) same.1 win in
+            let stepped = step_window (B t) (N t) next.instr m w names_low (omega (arith, fits.room t next.inside)) here in
+            let ended : (at (after_turns (after_turn parts t) turns) t).rest ≡ [] = subst (λ (i : ℕ). (at (after_turns (after_turn parts t) turns) i).rest ≡ []) same.1 done in
+            let left : P t (exec (at (after_turn parts t) t).rest (step w next.instr)) = further t (step w next.instr) (subst (λ (i : ℕ). i < length (after_turn parts t)) same.1 inside) ended stepped in
+            let same_rest : exec (at (after_turn parts t) t).rest (step w next.instr) ≡ exec (at parts t).rest w =
+            ap (λ (is : List Instr). exec is (step w next.instr)) (rest_here parts t next fits) ∙ sym (ap (λ (is : List Instr). exec is w) next.is) in
+            subst (λ (i : ℕ). P i (exec (at parts i).rest w)) (sym same.1) (subst (P t) same_rest left)
         | inr other ↦
-          let there : InWindow (B j) (N j) after w = record {
-            long = win.long;
-            same = λ c below. step_outside (B t) (N t) (B j + c) (outside parts t next fits j c other.1 below) next.instr m names_low ∙ win.same c below;
-          } in
-          subst (λ (is : List Instr). P j (exec is w)) (rest_there parts t next fits j other.1) (further j w inside done there)
+            let there : InWindow (B j) (N j) after w = record {
+              long = win.long;
+              same = λ c below. step_outside (B t) (N t) (B j + c) (outside parts t next fits j c other.1 below) next.instr m names_low ∙ win.same c below;
+            } in
+            subst (λ (is : List Instr). P j (exec is w)) (rest_there parts t next fits j other.1) (further j w inside done there)
       ] in
       subst (λ (is : List Instr). InWindow (B j) (N j) (exec is m) (exec (at parts j).rest w)) (sym (instrs_of parts t next fits turns)) whole
 
@@ -245,7 +245,7 @@ module _ (target : Target) (limit : ℕ) (B N : ℕ → ℕ) where
     primed_alike r s same (i ∷ is) valid h = (
       finds_alike r s same i (All-head (IsValid target n) i is valid) h.0,
       primed_alike (primed_after r i) (primed_after s i) (λ c low. ap (λ b. if has c (writes i) then is_init i else b) (same c low)) is
-      (All-tail (IsValid target n) i is valid) h.1,
+          (All-tail (IsValid target n) i is valid) h.1,
     )
 
   pub primed_frame : (turns : List ℕ) (parts : List Left) (k : ℕ) (ready : ℕ → Bool) → Fits target limit B N parts → bad_turn k parts turns ≡ None
@@ -266,11 +266,11 @@ module _ (target : Target) (limit : ℕ) (B N : ℕ → ℕ) where
         finds_moved (B t) ready i here.0,
         primed_frame turns (after_turn parts t) (k + 1) after (fits_after parts t next fits) turn.1 (λ j low. elim (eqb_tells j t) [
           | inl same ↦ subst (λ (n : ℕ). IsPrimedFrom (λ c. after (B n + c)) (at (after_turn parts t) n).rest) (sym same.1)
-            (subst (IsPrimedFrom (λ c. after (B t + c))) (sym (rest_here parts t next fits))
-            (primed_alike (N t) (primed_after (λ c. ready (B t + c)) i) (λ c. after (B t + c)) here_after next.others (others_valid parts t next fits) here.1))
+              (subst (IsPrimedFrom (λ c. after (B t + c))) (sym (rest_here parts t next fits))
+              (primed_alike (N t) (primed_after (λ c. ready (B t + c)) i) (λ c. after (B t + c)) here_after next.others (others_valid parts t next fits) here.1))
           | inr other ↦
-            let inside : j < length parts = omega (arith, length-after parts t) in
-            subst (IsPrimedFrom (λ c. after (B j + c))) (sym (rest_there parts t next fits j other.1))
-            (primed_alike (N j) (λ c. ready (B j + c)) (λ c. after (B j + c)) (there_after j other.1) (at parts j).rest (fits.valid j inside) (primed j inside))
+              let inside : j < length parts = omega (arith, length-after parts t) in
+              subst (IsPrimedFrom (λ c. after (B j + c))) (sym (rest_there parts t next fits j other.1))
+              (primed_alike (N j) (λ c. ready (B j + c)) (λ c. after (B j + c)) (there_after j other.1) (at parts j).rest (fits.valid j inside) (primed j inside))
         ]),
       )

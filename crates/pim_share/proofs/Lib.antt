@@ -2,3 +2,4 @@ pub mod Moves
 pub mod Frames
 pub mod Laying
 pub mod Shared
+pub mod Cuts

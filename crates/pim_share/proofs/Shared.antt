@@ -33,23 +33,24 @@ ltb_tells a b = elim (leb_tells (suc a) b) [ inl h ↦ inl (h.0, omega (arith, h
 
 prefix_all : {X : Type 0} (q : X → Bool) (xs : List X) → length xs ≤ prefix_len q xs → (j : ℕ) (d : X) → j < length xs → q (get_or xs j d) ≡ true
 prefix_all q [] long j d low = absurd (omega arith)
-prefix_all q (x ∷ xs) long j d low = go (q x) refl j low
+prefix_all q (x ∷ xs) long j d low = go (q x) refl (λ more i below. prefix_all q xs more i d below) j low
   where
-    go : (b : Bool) → q x ≡ b → (i : ℕ) → i < length (x ∷ xs) → q (get_or (x ∷ xs) i d) ≡ true
-    go false is i below =
+    go : (b : Bool) → q x ≡ b → (length xs ≤ prefix_len q xs → (i : ℕ) → i < length xs → q (get_or xs i d) ≡ true)
+        → (i : ℕ) → i < length (x ∷ xs) → q (get_or (x ∷ xs) i d) ≡ true
+    go false is rest i below =
         let none : prefix_len q (x ∷ xs) ≡ 0 = ap (λ (b : Bool). cond b (1 + prefix_len q xs) 0) is in
         absurd (omega arith)
-    go true is zero below = is
-    go true is (suc i) below =
+    go true is rest zero below = is
+    go true is rest (suc i) below =
         let more : prefix_len q (x ∷ xs) ≡ 1 + prefix_len q xs = ap (λ (b : Bool). cond b (1 + prefix_len q xs) 0) is in
-        prefix_all q xs (omega arith) i d (omega arith)
+        rest (omega arith) i (omega arith)
 
 -- where no place is found, the test fails everywhere
 position_none : {X : Type 0} (p : X → Bool) (xs : List X) → position p xs ≡ None → (j : ℕ) (d : X) → j < length xs → p (get_or xs j d) ≡ false
 position_none p xs none j d low = elim (ltb_tells (prefix_len (λ x. not (p x)) xs) (length xs)) [
   | inl found ↦
-    let bad : Some (prefix_len (λ x. not (p x)) xs) ≡ None = ap (λ (b : Bool). cond b (Some (prefix_len (λ x. not (p x)) xs)) None) (sym found.0) ∙ none in
-    cc
+      let bad : Some (prefix_len (λ x. not (p x)) xs) ≡ None = ap (λ (b : Bool). cond b (Some (prefix_len (λ x. not (p x)) xs)) None) (sym found.0) ∙ none in
+      cc
   | inr all ↦ not_true (p (get_or xs j d)) (prefix_all (λ x. not (p x)) xs (omega (arith, all.1)) j d low)
 ]
   where
@@ -64,9 +65,16 @@ got (y ∷ ys) (suc j) x d e = let rest = got ys j x d e in (omega (arith, rest.
 
 -- ---- which program it is
 
-pub target_first : (parts : List ProgramView) (p : ProgramView) → 0 < length parts → p ≡ get_or parts 0 p → p.target ≡ target_of parts
+target_first : (parts : List ProgramView) (p : ProgramView) → 0 < length parts → p ≡ get_or parts 0 p → p.target ≡ target_of parts
 target_first [] p some is = absurd (omega arith)
 target_first (q ∷ ps) p some is = ap (λ (x : ProgramView). x.target) is
+
+-- what is found with the target of the first part
+pub found_is : (parts : List ProgramView) (t : Target) (p : ProgramView) (o : Option ℕ) → 0 < length parts → t ≡ p.target → p ≡ get_or parts 0 p
+    → o ≡ position (λ (q : ProgramView). differ q.target t) parts → other_target parts ≡ o
+found_is parts t p o some target first is =
+    let same : t ≡ target_of parts = target ∙ target_first parts p some first in
+    sym (is ∙ ap (λ (u : Target). position (λ (q : ProgramView). differ q.target u) parts) same)
 
 pub other_fault : (parts : List ProgramView) (turns : List ℕ) (budget j : ℕ) → other_target parts ≡ Some j → merge_of parts turns budget ≡ Err (faults.OtherTarget j)
 unfolding merge_of
@@ -172,9 +180,9 @@ module _ (parts : List ProgramView) (turns : List ℕ) (are : AreParts (target_o
   shared = record {
     windows = window;
     outputs = λ j p row w is long win.
-      let there = got parts j p nothing is in
-      let sound : IsSound p = subst IsSound there.1 (are.sound j there.0) in
-      outputs_alike p.outputs p.cells (base parts j) (exec (merged parts turns).instrs row) (exec p.instrs w) sound.outputs (window j p row w is long win);
+        let there = got parts j p nothing is in
+        let sound : IsSound p = subst IsSound there.1 (are.sound j there.0) in
+        outputs_alike p.outputs p.cells (base parts j) (exec (merged parts turns).instrs row) (exec p.instrs w) sound.outputs (window j p row w is long win);
     others = λ row c behind. frame_outside (target_of parts) (needed parts) (base parts) (cells_at parts) turns (laid 0 parts) 0 row c fits fine behind;
     length_kept = λ row. length_exec (merged parts turns).instrs row;
   }
@@ -188,11 +196,11 @@ module _ (parts : List ProgramView) (turns : List ℕ) (are : AreParts (target_o
   fair = record {
     named = turns_named turns (laid 0 parts) 0 (length parts) (length-laid parts 0) fine;
     often = λ j p is.
-      let there = got parts j p nothing is in
-      let count = counted turns (laid 0 parts) 0 fine j (omega (arith, there.0, length-laid parts 0)) in
-      let none : length (at (after_turns (laid 0 parts) turns) j).rest ≡ 0 = ap length (done j there.0) in
-      let all : length (at (laid 0 parts) j).rest ≡ length p.instrs = ap length (rest_at j there.0) ∙ ap (λ (q : ProgramView). length q.instrs) there.1 in
-      omega (arith, count, none, all);
+        let there = got parts j p nothing is in
+        let count = counted turns (laid 0 parts) 0 fine j (omega (arith, there.0, length-laid parts 0)) in
+        let none : length (at (after_turns (laid 0 parts) turns) j).rest ≡ 0 = ap length (done j there.0) in
+        let all : length (at (laid 0 parts) j).rest ≡ length p.instrs = ap length (rest_at j there.0) ∙ ap (λ (q : ProgramView). length q.instrs) there.1 in
+        omega (arith, count, none, all);
   }
 
   pub sound : IsSound (merged parts turns)

@@ -1,5 +1,5 @@
 -- The programs that stand one after another in a file.
-use Rattle.std.specs.Prelude.{ℕ, ◌+◌, ◌*◌, ◌<◌, ◌≤◌, ◌^◌, Bool, ◌&&◌, nat_le, nat_lt, if◌then◌else◌, List, [], ◌∷◌, ◌++◌, codes, drop, length, slice_range, sum_by, Result, Ok, Err}
+use Rattle.std.specs.Prelude.{ℕ, ◌+◌, ◌*◌, ◌<◌, ◌≤◌, ◌^◌, Bool, ◌&&◌, ◌||◌, ◌==◌, nat_lt, if◌then◌else◌, List, [], ◌∷◌, ◌++◌, codes, drop, length, slice_range, sum_by, Result, Ok, Err}
 use Rattle.std.specs.Str.{bytes_eq}
 use Rattle.pim_io.specs.Lines.{LineView, lines}
 use Rattle.pim_io.specs.Readings.{◌>>=◌}
@@ -17,11 +17,14 @@ is_end line = line.ended && bytes_eq line.text (codes "end")
 abbrev pub behind : LineView → ℕ
 behind line = line.start + length line.text + 1
 
+-- a piece begins at the place `from`, behind the last cut: bytes are left there, or nothing was cut
+abbrev pub has_rest : ℕ → List ℕ → Bool
+has_rest from bytes = (from == 0) || nat_lt from (length bytes)
+
 -- the pieces from the place `from` on, which are cut behind each of these lines that is `end`; the bytes behind the last
 -- cut are a piece, where there are any, and so is a file without bytes
 abbrev pub pieces_from : ℕ → List LineView → List ℕ → List (List ℕ)
-pieces_from from [] bytes =
-    if nat_lt 0 from && nat_le (length bytes) from then [] else drop from bytes ∷ []
+pieces_from from [] bytes = if has_rest from bytes then drop from bytes ∷ [] else []
 pieces_from from (line ∷ others) bytes =
     if is_end line
     then slice_range bytes from (behind line) ∷ pieces_from (behind line) others bytes
@@ -36,11 +39,15 @@ abbrev pub part_of : ℕ → Result ProgramView FileFault → Result ProgramView
 part_of part (Ok program) = Ok program
 part_of part (Err fault) = Err (faults.Part part fault)
 
+-- the programs so far and that of one more piece, or its fault
+abbrev pub with_part : List ProgramView → List ℕ → Result (List ProgramView) ManyFault
+with_part parts piece =
+    part_of (length parts) (parse1_of piece) >>= λ program. Ok (parts ++ program ∷ [])
+
 -- the programs so far and those of further pieces, or the fault of the first of these that is no program
 abbrev pub parts_after : List ProgramView → List (List ℕ) → Result (List ProgramView) ManyFault
 parts_after parts [] = Ok parts
-parts_after parts (piece ∷ others) =
-    part_of (length parts) (parse1_of piece) >>= λ program. parts_after (parts ++ program ∷ []) others
+parts_after parts (piece ∷ others) = with_part parts piece >>= λ more. parts_after more others
 
 -- the programs of a file, or the fault of the first piece that is no program
 unfoldable pub parts_of : List ℕ → Result (List ProgramView) ManyFault

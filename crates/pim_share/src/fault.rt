@@ -1,5 +1,6 @@
 use pim_file::FileFault;
 use pim_io::NoMemory;
+use std::alloc::AllocFailed;
 use thiserror::Error;
 
 /// Why a file is no programs one after another.
@@ -36,13 +37,13 @@ pub enum ShareFault {
     NoMemory,
 }
 
-impl From<NoMemory> for ManyFault {
+impl<T: Drop> From<AllocFailed<T>> for ManyFault {
     ghost use Rattle.std.specs.Prelude.{◌≡◌};
     ghost use Rattle.pim_share.specs.declared.fault.ManyFault.TheVariants as faults;
 
     ghost from_gives = { λ _ fault. fault ≡ faults.NoMemory };
 
-    fn from(_error: NoMemory) -> ManyFault {
+    fn from(_error: AllocFailed<T>) -> ManyFault {
         ManyFault::NoMemory
     }
 }
