@@ -1,17 +1,18 @@
+use pim_aig::FlatFault;
 use pim_io::NoMemory;
 use thiserror::Error;
 
 /// Why a netlist was not compiled.
 #[derive(Clone, Copy, Debug, PartialEq, Eq, Error)]
 pub enum Refusal {
-    /// The budget is below the cells that the schedule needs.
+    /// The budget is below the cells that the netlist needs.
     #[error("too few cells")]
     TooFewCells { needed: u32 },
     /// The flat graph has more AND nodes than `pim_aig::MAX_ANDS`.
     #[error("too many nodes")]
     TooLarge,
-    /// There was no memory.
-    #[error("no memory")]
+    /// Out of memory.
+    #[error("out of memory")]
     NoMemory,
 }
 
@@ -23,5 +24,19 @@ impl From<NoMemory> for Refusal {
 
     fn from(_error: NoMemory) -> Refusal {
         Refusal::NoMemory
+    }
+}
+
+impl From<FlatFault> for Refusal {
+    ghost use Rattle.std.specs.Prelude.{◌≡◌};
+    ghost use Rattle.pim_compile.specs.inner.Candidates.{refusal_of};
+
+    ghost from_gives = { λ fault e. e ≡ refusal_of fault };
+
+    fn from(fault: FlatFault) -> Refusal {
+        match fault {
+            FlatFault::TooLarge => Refusal::TooLarge,
+            FlatFault::NoMemory => Refusal::NoMemory,
+        }
     }
 }

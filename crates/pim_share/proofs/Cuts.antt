@@ -10,7 +10,8 @@ use Rattle.pim_isa.specs.declared.port.Port.{Port}
 use Rattle.pim_isa.specs.declared.target.Target.{Target}
 use Rattle.pim_isa.specs.declared.target.Target.TheVariants.{Magic, Plim}
 use Rattle.pim_isa.specs.Programs.{ProgramView}
-use Rattle.pim_file.specs.Text.{counted_text, head_text, instrs_text, port_text, ports_text, target_word, text as text_of}
+use Rattle.pim_file.specs.Text.{head_text, instrs_text, text as text_of}
+use Rattle.pim_text.specs.Text.{counted_text, port_text, ports_text, target_word}
 use Rattle.pim_share.specs.Pieces.{behind, is_end, parts_after, parts_of, pieces, pieces_from, ports_in_all, with_part}
 use Rattle.pim_share.specs.declared.fault.ManyFault.{ManyFault}
 

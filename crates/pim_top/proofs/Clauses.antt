@@ -1,35 +1,29 @@
 -- What follows of how a call ended, whatever command its words say.
-use Rattle.std.proofs.Common.{◌≡◌, ◌≢◌, ◌⊎◌, ℕ, ◌≤◌, Bool, true, false, List, [], ◌++◌, Option, Some, None, Result, Ok, Err, inl, inr, refl, sym, ap, ◌∙◌, subst}
+use Rattle.std.proofs.Common.{◌≡◌, ◌≢◌, ◌⊎◌, ℕ, true, false, List, Some, Result, Ok, Err, inl, inr, refl, sym, ◌∙◌, subst}
 use Rattle.std.specs.Prelude.{OnOk}
 use Rattle.pim_io.specs.Outside.{Rose, Told}
-use Rattle.pim_io.specs.declared.limits.TheConstants.{MAX_INPUT, MAX_PROGRAM}
 use Rattle.pim_words.specs.Reading.{command_said, is_usage}
 use Rattle.pim_words.specs.declared.command.Command.{Command}
-use Rattle.pim_words.specs.declared.command.Command.TheVariants.{Compile, Run}
-use Rattle.pim_top.specs.Answers.{IsFine}
+use Rattle.pim_words.specs.declared.command.Command.TheVariants.{Debug, Run}
 use Rattle.pim_top.specs.Calls.{Ends, FileIsFine, HasWritten, IsCalm, IsDecided, IsDone, IsFileDecided, IsIdle, IsObeyed, IsRefused, Obeys}
-use Rattle.pim_top.specs.Decides.{Decides}
-use Rattle.pim_top.specs.Reads.{IsApart, OfBytes, Tells, executes_rows, reads, streams}
-use Rattle.pim_top.specs.Statuses.{answer_status, judgement_status, refusal_status}
+use Rattle.pim_top.specs.Reads.{IsApart, OfBytes, OfInput, Tells, executes_rows, reads, streams}
+use Rattle.pim_top.specs.Statuses.{answer_status, refusal_status}
 use Rattle.pim_top.specs.Streams.{IsUntouched, Seen}
 use Rattle.pim_top.specs.commands.Run.{run_of}
-use Rattle.pim_top.specs.declared.judgement.Judgement.{Judgement}
-use Rattle.pim_top.specs.declared.refusal.Origin.{Origin}
 use Rattle.pim_top.specs.declared.refusal.Origin.TheVariants as origin
 use Rattle.pim_top.specs.declared.refusal.Refusal.{Refusal}
 use Rattle.pim_top.specs.declared.refusal.Refusal.TheVariants as refusal
 use Rattle.pim_top.specs.declared.status.Status.{Status}
 use Rattle.pim_top.specs.declared.status.Status.TheVariants as status
-use Rattle.pim_top.proofs.CompileFine.{compile-fine}
-use Rattle.pim_top.proofs.RowsEnds.{FileRefusal, rows-decided, rows-done, rows-file, rows-memory, rows-read, rows-usage, rows-write}
-use Rattle.pim_top.proofs.RunFine.{run-fine}
+use Rattle.pim_top.proofs.commands.debug.Ends.{debug-decided, debug-done, debug-file, debug-read, debug-steady, debug-usage, debug-write}
+use Rattle.pim_top.proofs.RowsEnds.{rows-decided, rows-done, rows-file, rows-memory, rows-read, rows-usage, rows-write}
 use Rattle.pim_top.proofs.StatusKinds.{refusal-done}
 use Rattle.pim_top.proofs.Told.{read-steady}
 use Rattle.pim_top.proofs.Wholes.{whole-decided, whole-done, whole-file, whole-nothing, whole-read, whole-usage, whole-write}
 
 -- ---- of one command
 abbrev Wrote : Command → Seen → Type 0
-Wrote c seen = OfBytes (reads c origin.Program) seen.program (λ file. OfBytes (reads c origin.Input) seen.input (λ input. Told seen.output.before seen.output.now (λ before after. HasWritten c file input before after)))
+Wrote c seen = OfBytes (reads c origin.Program) seen.program (λ file. OfInput c seen.input (λ input. Told seen.output.before seen.output.now (λ before after. HasWritten c file input before after)))
 
 -- no count rose
 abbrev Steady : Seen → Type 0
@@ -40,6 +34,10 @@ ends-done (Run fill) seen y h = (
   rows-done (run_of fill) seen y (HasWritten (Run fill)) (λ file input before after text e fits d. record { text = text; took = e; given = inr (fits, d) }) h,
   (h.loaded.read.steady, h.walk.input, h.walk.output),
 )
+ends-done (Debug fill) seen y h = (
+  debug-done fill seen y (HasWritten (Debug fill)) (λ file input before after text e fits d. record { text = text; took = e; given = inr (fits, d) }) h,
+  debug-steady fill seen y h,
+)
 ends-done c seen y h = (
   whole-done c seen (HasWritten c) (λ file input before after text e fits d. record { text = text; took = e; given = inr (fits, d) }) h,
   (read-steady (reads c origin.Program) seen.program h.file h.program_read, read-steady (reads c origin.Input) seen.input h.input h.input_read, h.took.steady),
@@ -47,18 +45,22 @@ ends-done c seen y h = (
 
 ends-usage : (c : Command) (seen : Seen) (r : Refusal) → Ends {Y = Unit {0}} c seen (Err r) → refusal_status r ≡ status.Usage → ⊥
 ends-usage (Run fill) seen r h e = rows-usage (run_of fill) seen r h e
+ends-usage (Debug fill) seen r h e = debug-usage fill seen r h e
 ends-usage c seen r h e = whole-usage c seen r h e
 
 ends-read : (c : Command) (seen : Seen) (r : Refusal) → Ends {Y = Unit {0}} c seen (Err r) → refusal_status r ≡ status.ReadFault → Rose seen.program.faults seen.program.faults_now ⊎ Rose seen.input.faults seen.input.faults_now
 ends-read (Run fill) seen r h e = rows-read (run_of fill) seen r h e
+ends-read (Debug fill) seen r h e = debug-read fill seen r h e
 ends-read c seen r h e = whole-read c seen r h e
 
 ends-write : (c : Command) (seen : Seen) (r : Refusal) → Ends {Y = Unit {0}} c seen (Err r) → refusal_status r ≡ status.WriteFault → Rose seen.output.faults seen.output.faults_now
 ends-write (Run fill) seen r h e = rows-write (run_of fill) seen r h e
+ends-write (Debug fill) seen r h e = debug-write fill seen r h e
 ends-write c seen r h e = whole-write c seen r h e
 
 ends-nothing : (c : Command) (seen : Seen) (r : Refusal) → streams c ≡ false → Ends {Y = Unit {0}} c seen (Err r) → (refusal_status r ≡ status.WriteFault → ⊥) → IsUntouched seen.output
 ends-nothing (Run fill) seen r not h n = absurd (let z : ⊥ = cc in z)
+ends-nothing (Debug fill) seen r not h n = absurd (let z : ⊥ = cc in z)
 ends-nothing c seen r not h n = whole-nothing c seen r h n
 
 ends-memory : (c : Command) (seen : Seen) (r : Refusal) → executes_rows c ≡ true → Ends {Y = Unit {0}} c seen (Err r) → refusal_status r ≡ status.NoMemory → IsUntouched seen.input × IsUntouched seen.output
@@ -71,6 +73,12 @@ FileSays c file s = FileIsFine c file ⊎ (IsFileDecided c file s ⊎ (s ≡ sta
 
 ends-file : (c : Command) (seen : Seen) (file : List ℕ) (result : Result (Unit {0}) Refusal) → Tells (reads c origin.Program) seen.program file → (Rose seen.program.faults seen.program.faults_now → ⊥) → Ends c seen result → FileSays c file (answer_status result)
 ends-file (Run fill) seen file result t calm h = elim (rows-file (run_of fill) seen file result t calm h) [
+  | inl fine ↦ inl fine
+  | inr (inl (inl long)) ↦ inr (inl (record { refusal = refusal.TooLong origin.Program; decided = long.0; ends = long.1 }))
+  | inr (inl (inr judged)) ↦ inr (inl (record { refusal = refusal.Judged judged.0; decided = (judged.1, judged.2); ends = judged.3 }))
+  | inr (inr wanting) ↦ inr (inr wanting)
+]
+ends-file (Debug fill) seen file result t calm h = elim (debug-file fill seen file result t calm h) [
   | inl fine ↦ inl fine
   | inr (inl (inl long)) ↦ inr (inl (record { refusal = refusal.TooLong origin.Program; decided = long.0; ends = long.1 }))
   | inr (inl (inr judged)) ↦ inr (inl (record { refusal = refusal.Judged judged.0; decided = (judged.1, judged.2); ends = judged.3 }))
@@ -93,15 +101,16 @@ ends-decided (Run fill) seen file bytes result t u calm h = elim (rows-decided (
   | inr (inl late) ↦ inl (record { answer = late.0; decided = inr (late.1, late.2); ends = late.3 })
   | inr (inr wanting) ↦ inr wanting
 ]
+ends-decided (Debug fill) seen file bytes result t u calm h = elim (debug-decided fill seen file bytes result t u calm h) [
+  | inl (inl long) ↦ inl (record { answer = Err (refusal.TooLong origin.Program); decided = inl long.0; ends = long.1 })
+  | inl (inr judged) ↦ inl (record { answer = Err (refusal.Judged judged.0); decided = inl (judged.1, judged.2); ends = judged.3 })
+  | inr (inl late) ↦ inl (record { answer = late.0; decided = inr (late.1, late.2); ends = late.3 })
+  | inr (inr wanting) ↦ inr wanting
+]
 ends-decided c seen file bytes result t u calm h = elim (whole-decided c seen file bytes result t u calm h) [
   | inl decided ↦ inl (record { answer = decided.0; decided = decided.1; ends = decided.2 })
   | inr wanting ↦ inr wanting
 ]
-
--- bytes that are fine are done, or memory ran out
-fine-decided : (c : Command) (file bytes : List ℕ) (answer : Result (List ℕ) Refusal) → IsFine c file bytes → Decides c file bytes answer → (answer_status answer ≡ status.Done) ⊎ (answer_status answer ≡ status.NoMemory)
-fine-decided (Compile target level cells) file bytes answer fine h = compile-fine target level cells file bytes answer fine h
-fine-decided (Run fill) file bytes answer fine h = run-fine fill file bytes answer fine h
 
 -- ---- of a call
 -- the words say one command
@@ -202,11 +211,9 @@ call-decided words seen result h c file bytes said accepted t u calm = elim h [
   | inr obeyed ↦ ends-decided c seen file bytes result t u calm (subst (λ (d : Command). Ends d seen result) (some_of obeyed.command c (sym obeyed.said ∙ said)) obeyed.ends)
 ]
 
-pub call-complete : (words : List (List ℕ)) (seen : Seen) (result : Result_of) → Obeys words seen result → (c : Command) (file bytes : List ℕ) → command_said words ≡ Some c → is_usage words ≡ false → Tells (reads c origin.Program) seen.program file → Tells (reads c origin.Input) seen.input bytes → IsCalm seen → IsFine c file bytes → (answer_status result ≡ status.Done) ⊎ (answer_status result ≡ status.NoMemory)
-call-complete words seen result h c file bytes said accepted t u calm fine = elim (call-decided words seen result h c file bytes said accepted t u calm) [
-  | inl d ↦ elim (fine-decided c file bytes d.answer fine d.decided) [ inl done ↦ inl (d.ends ∙ done) | inr wanting ↦ inr (d.ends ∙ wanting) ]
-  | inr wanting ↦ inr wanting
-]
+-- words that are accepted say a command that was begun, or there was no memory for them
+pub unsaid-memory : (words : List (List ℕ)) (seen : Seen) (result : Result_of) → is_usage words ≡ false → IsRefused words seen result → answer_status result ≡ status.NoMemory
+unsaid-memory words seen result accepted refused = accepted-memory words seen result accepted refused
 
 obeyed-nothing : (words : List (List ℕ)) (seen : Seen) (result : Result_of) (c : Command) → streams c ≡ false → answer_status result ≢ status.Done → answer_status result ≢ status.WriteFault → Ends c seen result → IsUntouched seen.output
 obeyed-nothing words seen (Ok y) c not d w h = absurd (d refl)

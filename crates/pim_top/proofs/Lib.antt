@@ -4,10 +4,9 @@ pub mod NextLine
 pub mod WalkStates
 pub mod WalkSteps
 pub mod Told
+pub mod ProgramFiles
 pub mod StatusKinds
 pub mod Wholes
 pub mod RowsEnds
-pub mod CompileFine
-pub mod RunFine
 pub mod Clauses
-pub mod CycleLabels
+pub mod SpacedLabels

@@ -11,9 +11,15 @@ ghost use Rattle.pim_top.specs.Notes.{refusal_note};
 ghost use Rattle.pim_top.specs.Reads.{IsApart, Tells, executes_rows, reads, streams};
 ghost use Rattle.pim_top.specs.Statuses.{answer_status};
 ghost use Rattle.pim_top.specs.Streams.{IsUntouched, seen, stream};
+ghost use Rattle.pim_top.specs.inner.Faultless.{IsComplete};
 
 use crate::Status;
+use crate::commands::asm::Asm;
 use crate::commands::compile::Compile;
+use crate::commands::convert::Convert;
+use crate::commands::debug::debug;
+use crate::commands::explain::Explain;
+use crate::commands::list;
 use crate::commands::run::run;
 use crate::note::tell;
 use crate::refusal::{Origin, Refusal};
@@ -114,6 +120,10 @@ fn obey<P: Source, S: Source, K: Sink>(
     ensures obeys { Obeys (map string_bytes words.now) (seen (stream P.left P.faults program.old program.new)
         (stream S.left S.faults input.old input.new) (stream K.taken K.faults output.old output.new)) result }
     ensures said { (command : Command) → IsPlain command (map string_bytes words.now) → IsTaken command (map string_bytes words.now) }
+    ensures complete { (command : Command) → command_said (map string_bytes words.now) ≡ Some command
+        → is_usage (map string_bytes words.now) ≡ false
+        → IsComplete command (seen (stream P.left P.faults program.old program.new)
+        (stream S.left S.faults input.old input.new) (stream K.taken K.faults output.old output.new)) result }
 {
     match pim_words::read(alloc, words) {
         Ok(command) => execute(alloc, command, program, input, output),
@@ -135,6 +145,8 @@ fn execute<P: Source, S: Source, K: Sink>(
         (stream S.left S.faults input.old input.new) (stream K.taken K.faults output.old output.new)) result }
     ensures apart { IsApart command (seen (stream P.left P.faults program.old program.new)
         (stream S.left S.faults input.old input.new) (stream K.taken K.faults output.old output.new)) }
+    ensures complete { IsComplete command (seen (stream P.left P.faults program.old program.new)
+        (stream S.left S.faults input.old input.new) (stream K.taken K.faults output.old output.new)) result }
 {
     match command {
         Command::Compile {
@@ -150,6 +162,11 @@ fn execute<P: Source, S: Source, K: Sink>(
             write_text(alloc, &compile, program, input, output)
         }
         Command::Run { fill } => run(alloc, fill, program, input, output),
+        Command::List => write_text(alloc, &list::List, program, input, output),
+        Command::Explain => write_text(alloc, &Explain, program, input, output),
+        Command::Asm => write_text(alloc, &Asm, program, input, output),
+        Command::Debug { fill } => debug(alloc, fill, program, input, output),
+        Command::Convert { form } => write_text(alloc, &Convert { form }, program, input, output),
     }
 }
 
