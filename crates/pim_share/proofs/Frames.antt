@@ -106,6 +106,51 @@ counted (t ∷ turns) parts k fine j low =
           omega (arith, rest, first, none, there)
     ]
 
+-- the other way about: turns that name each part as often as it has instructions have no fault, and leave nothing
+pub fair_turns : (turns : List ℕ) (parts : List Left) (k n : ℕ) → length parts ≡ n → All (λ j. j < n) turns
+    → ((j : ℕ) → j < length parts → count_by (λ t. t == j) turns ≡ length (at parts j).rest)
+    → (bad_turn k parts turns ≡ None) × ((j : ℕ) → j < length parts → (at (after_turns parts turns) j).rest ≡ [])
+fair_turns [] parts k n is named often = (refl, λ j low. none_left (at parts j).rest (sym (often j low)))
+  where
+    none_left : (rest : List Instr) → length rest ≡ 0 → rest ≡ []
+    none_left [] e = refl
+    none_left (i ∷ rest) e = absurd (omega arith)
+fair_turns (t ∷ turns) parts k n is named often =
+    go (at parts t).rest refl (λ counts. fair_turns turns (after_turn parts t) (k + 1) n (length-after parts t ∙ is) (All-tail (λ (j : ℕ). j < n) t turns named) counts)
+  where
+    inside : t < length parts
+    inside = subst (λ m. t < m) (sym is) (All-head (λ (j : ℕ). j < n) t turns named)
+
+    first : (j : ℕ) → count_by (λ (u : ℕ). u == j) (t ∷ turns) ≡ one_if (t == j) + count_by (λ (u : ℕ). u == j) turns
+    first j = sum_by-cons (λ (u : ℕ). one_if (u == j)) t turns
+
+    go : (rest : List Instr) → (at parts t).rest ≡ rest
+        → (((j : ℕ) → j < length (after_turn parts t) → count_by (λ u. u == j) turns ≡ length (at (after_turn parts t) j).rest)
+        → (bad_turn (k + 1) (after_turn parts t) turns ≡ None) × ((j : ℕ) → j < length (after_turn parts t) → (at (after_turns (after_turn parts t) turns) j).rest ≡ []))
+        → (bad_turn k parts (t ∷ turns) ≡ None) × ((j : ℕ) → j < length parts → (at (after_turns parts (t ∷ turns)) j).rest ≡ [])
+    go [] e further =
+        let one : one_if (t == t) ≡ 1 = elim (eqb_tells t t) [ inl same ↦ ap one_if same.0 | inr other ↦ absurd (other.1 refl) ] in
+        let none : length (at parts t).rest ≡ 0 = ap length e in
+        absurd (omega (arith, often t inside, first t, one, none))
+    go (i ∷ others) e further =
+        let rest = further (λ j low.
+        let here : j < length parts = omega (arith, length-after parts t) in
+        elim (eqb_tells t j) [
+          | inl same ↦
+              let one : one_if (t == j) ≡ 1 = ap one_if same.0 in
+              let whole : length (at parts t).rest ≡ length others + 1 = ap length e ∙ omega arith in
+              let left : length (at (after_turn parts t) t).rest ≡ length others =
+              ap (λ (x : Left). length x.rest) (after_same parts t inside) ∙ ap (λ (r : List Instr). length (drop 1 r)) e in
+              let all : length (at parts j).rest ≡ length others + 1 = subst (λ (m : ℕ). length (at parts m).rest ≡ length others + 1) same.1 whole in
+              let there : length (at (after_turn parts t) j).rest ≡ length others = subst (λ (m : ℕ). length (at (after_turn parts t) m).rest ≡ length others) same.1 left in
+              omega (arith, often j here, first j, one, all, there)
+          | inr other ↦
+              let none : one_if (t == j) ≡ 0 = ap one_if other.0 in
+              let there : length (at (after_turn parts t) j).rest ≡ length (at parts j).rest = ap (λ (x : Left). length x.rest) (after_other parts t j (λ f. other.1 (sym f))) in
+              omega (arith, often j here, first j, none, there)
+        ]) in
+        (subst (λ (r : List Instr). Judged parts t k turns r) (sym e) rest.0, λ j low. rest.1 j (omega (arith, length-after parts t)))
+
 pub turns_named : (turns : List ℕ) (parts : List Left) (k n : ℕ) → length parts ≡ n → bad_turn k parts turns ≡ None → All (λ j. j < n) turns
 turns_named [] parts k n is fine = All-nil (λ (j : ℕ). j < n)
 turns_named (t ∷ turns) parts k n is fine =

@@ -5,6 +5,7 @@ use Rattle.std.specs.List.{All, position, prefix_len}
 use Rattle.std.specs.Option.{option_or}
 use Rattle.std.proofs.lemmas.Bool.{cases_lt}
 use Rattle.std.proofs.lemmas.Bool.Decides.{leb_tells}
+use Rattle.std.proofs.lemmas.List.{get_or_default}
 use Rattle.std.proofs.lemmas.List.Elements.{All-head, All-tail}
 use Rattle.pim_isa.specs.declared.instr.Ins.{Ins}
 use Rattle.pim_isa.specs.declared.instr.Instr.{Instr}
@@ -23,7 +24,7 @@ use Rattle.pim_share.specs.Windows.{InWindow, base, needed}
 use Rattle.pim_share.specs.declared.fault.ShareFault.{ShareFault}
 use Rattle.pim_share.specs.declared.fault.ShareFault.TheVariants as faults
 use Rattle.pim_share.proofs.Moves.{length-step}
-use Rattle.pim_share.proofs.Frames.{Fits, all_fit, at, counted, frame, frame_outside, length-after_turns, length-interleave, primed_frame, turns_named}
+use Rattle.pim_share.proofs.Frames.{Fits, all_fit, at, counted, frame, fair_turns, frame_outside, length-after_turns, length-interleave, primed_frame, turns_named}
 use Rattle.pim_share.proofs.Laying.{AreParts, cells_at, laid_at, laid_fits, length-laid, merged_sound, nothing, part}
 
 -- ---- searches
@@ -208,3 +209,35 @@ module _ (parts : List ProgramView) (turns : List ℕ) (are : AreParts (target_o
 
   pub cycles : length (merged parts turns).instrs ≡ length turns
   cycles = length-interleave turns (laid 0 parts) 0 fine
+
+-- ---- fair turns have no fault
+
+prefix_full : {X : Type 0} (q : X → Bool) (xs : List X) → ((j : ℕ) (d : X) → j < length xs → q (get_or xs j d) ≡ true) → prefix_len q xs ≡ length xs
+prefix_full q [] h = refl
+prefix_full q (x ∷ xs) h =
+    let more : prefix_len q (x ∷ xs) ≡ 1 + prefix_len q xs = ap (λ (b : Bool). cond b (1 + prefix_len q xs) 0) (h 0 x (omega arith)) in
+    omega (arith, more, prefix_full q xs (λ j d low. h (suc j) d (omega arith)))
+
+position_nowhere : {X : Type 0} (p : X → Bool) (xs : List X) → ((j : ℕ) (d : X) → j < length xs → p (get_or xs j d) ≡ false) → position p xs ≡ None
+position_nowhere p xs h =
+    let full = prefix_full (λ x. not (p x)) xs (λ j d low. ap not (h j d low)) in
+    elim (ltb_tells (prefix_len (λ x. not (p x)) xs) (length xs)) [
+      | inl found ↦ absurd (omega (arith, full, found.1))
+      | inr past ↦ ap (λ (b : Bool). cond b (Some (prefix_len (λ x. not (p x)) xs)) None) past.0
+    ]
+
+slice_get-at : {X : Type 0} (xs : List X) (j : ℕ) (d : X) → j < length xs → slice_get xs j ≡ Some (get_or xs j d)
+slice_get-at [] j d low = absurd (omega arith)
+slice_get-at (x ∷ xs) zero d low = refl
+slice_get-at (x ∷ xs) (suc j) d low = slice_get-at xs j d (omega arith)
+
+pub fair_judged : (parts : List ProgramView) (turns : List ℕ) → IsFair parts turns → turns_fault parts turns ≡ None
+fair_judged parts turns is =
+    let left = laid 0 parts in
+    let further = fair_turns turns left 0 (length parts) (length-laid parts 0) is.named (λ j low.
+    let inside : j < length parts = omega (arith, length-laid parts 0) in
+    is.often j (part parts j) (slice_get-at parts j nothing inside) ∙ sym (ap (λ (x : Left). length x.rest) (laid_at parts 0 j inside))) in
+    let ended : missing (after_turns left turns) ≡ None = position_nowhere is_left (after_turns left turns) (λ j d low.
+    let inside : j < length left = omega (arith, length-after_turns turns left) in
+    ap is_left (get_or_default (after_turns left turns) j d spent low) ∙ ap (λ (rest : List Instr). is_some (slice_get rest 0)) (further.1 j inside)) in
+    ap₂ (λ (x y : Option ℕ). option_or (option_map (λ k. faults.Turn k) x) (option_map (λ j. faults.Missing j) y)) further.0 ended

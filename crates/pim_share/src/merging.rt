@@ -50,6 +50,7 @@ fn needed(parts: &[Program]) -> u64
 
 /// The program that executes the parts in one row, each in its own window, in these turns. Linear in the parts, in the
 /// turns and in the cells that the instructions name.
+#[tactic(auto, using(crate::proofs::Shared::fair_judged))]
 pub fn merge(
     alloc: Global,
     parts: &[Program],
@@ -65,8 +66,9 @@ pub fn merge(
     ensures shared { IfOk result (IsShared parts.now) }
     ensures primed { IfOk result (KeepsPrimed parts.now) }
 
-    // The turns are fair to the parts.
+    // The turns are fair to the parts, and all fair turns will do.
     ensures fair { OnOk result (IsFair parts.now turns.now) }
+    ensures all_fair { IsFair parts.now turns.now → turns_fault parts.now turns.now ≡ None }
 {
     let target = parts[0].target();
     if let Some(part) = other_target(parts, target) {

@@ -1,3 +1,6 @@
+ghost use Rattle.std.specs.Prelude.{IfOk};
+ghost use Rattle.pim_share.specs.Pieces.{AreFew};
+
 use crate::{ManyFault, ShareFault, merge, parse_many};
 use pim_file::{FileFault, print};
 use pim_isa::Program;
@@ -9,7 +12,9 @@ const AND: &str = "pim 1\ntarget magic\ncells 5\ninput 0 a\ninput 1 b\noutput 4 
     init 2 3 4\nnot 2 1\nnot 3 0\nnor 4 2 3\nend\n";
 
 /// The AND gate twice.
-fn two_gates(alloc: Global) -> Result<Vec<Program>, Fail> {
+fn two_gates(alloc: Global) -> Result<Vec<Program>, Fail>
+    ensures { IfOk result (λ v. AreFew v.items) }
+{
     let mut text = String::from_str(alloc, AND)?;
     text.push_str(AND)?;
     Ok(parse_many(alloc, text.as_bytes())?)
