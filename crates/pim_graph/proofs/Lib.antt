@@ -8,6 +8,10 @@ pub mod ReadLemmas
 pub mod Reaching
 pub mod StableSorts
 pub mod Stacks
+pub mod TreeShapes
+pub mod Fallings
+pub mod Sweeps
+pub mod Unders
 pub mod UsageSteps
 pub mod Visits
 pub mod Walks

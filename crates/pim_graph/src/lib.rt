@@ -9,6 +9,7 @@ mod ordering;
 mod peaks;
 mod readers;
 mod spares;
+mod trees;
 #[cfg(test)]
 mod tests;
 mod usages;
@@ -19,4 +20,5 @@ pub use graph::Graph;
 pub use ordering::order;
 pub use peaks::peak;
 pub use readers::Readers;
+pub use trees::tree;
 pub use usages::usage;
