@@ -9,6 +9,7 @@ pub mod ReadLemmas
 pub mod Reaching
 pub mod StableSorts
 pub mod Stacks
+pub mod TreeLaws
 pub mod TreeShapes
 pub mod Fallings
 pub mod Sweeps

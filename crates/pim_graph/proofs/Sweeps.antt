@@ -53,7 +53,7 @@ raise h i m (u ∷ us) =
     omega arith
 
 module _ (g : GraphView) (sound : IsGraph g) where
-  abbrev cu : ℕ → ℕ
+  abbrev pub cu : ℕ → ℕ
   cu = slice_index (usages g)
 
   length-mapped : (xs : List ℕ) → length (map cu xs) ≡ length xs

@@ -12,7 +12,13 @@ use std::alloc::Global;
 /// The usage of the root, exactly where the graph is a tree: it has one root, which reaches every gate, and every other gate is read
 /// once. That many cells the tool's order takes, and no order takes fewer. Linear in the gates.
 pub fn tree(alloc: Global, graph: &Graph) -> Result<Option<u32>, NoMemory>
-    ensures { IfOk result (λ answer. answer ≡ tree_of graph.now) }
+    ensures tree { IfOk result (λ answer. answer ≡ tree_of graph.now) }
+
+    // For a tree it is the peak of the order, and no list that has each gate once and children before their gates has a
+    // smaller peak.
+    ensures best { IfOk result (λ answer. IfSome answer (λ cells. cells ≡ peak graph.now (order graph.now))) }
+    ensures least { IfOk result (λ answer. IfSome answer (λ cells.
+        (gates : List ℕ) → IsOrdering graph.now gates → cells ≤ peak graph.now gates)) }
 {
     let answer = root_usage(alloc, graph)?;
     Ok(answer)
