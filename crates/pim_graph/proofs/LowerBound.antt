@@ -367,11 +367,11 @@ module _ (g : GraphView) (sound : IsGraph g) (r : ℕ) (roots : g.roots ≡ r �
           let inside = low.within in
           let reader : has (drop p o) x ≡ true = ahead p x m there child low.ahead_of in
           let each : (c : ℕ) → has (d ∷ ds) c ≡ true → 1 ≤ held c p = λ c h.
-            (let (q, low_c, le) = is_last.others c h in
-            let k = all c h in
-            let under_x = low_child x c k in
-            let wanted : needed g (drop p o) c ≡ true = or_left (read_by g (drop p o) c) (has g.roots c) (read_by-has g (drop p o) x c reader (child_of x c k)) in
-            some_below (suc c) c p (get_or o q 0) (omega arith) (omega arith) wanted low_c.begun (earlier p q low_c.within le)) in
+          (let (q, low_c, le) = is_last.others c h in
+          let k = all c h in
+          let under_x = low_child x c k in
+          let wanted : needed g (drop p o) c ≡ true = or_left (read_by g (drop p o) c) (has g.roots c) (read_by-has g (drop p o) x c reader (child_of x c k)) in
+          some_below (suc c) c p (get_or o q 0) (omega arith) (omega arith) wanted low_c.begun (earlier p q low_c.within le)) in
           let greatest = falls m is_last.among in
           let enough_m = low.enough in
           let spread_out = spread (λ c. held c p) (d ∷ ds) m (cu g sound (get_or (kids x) i 0)) each is_last.among (omega arith) in

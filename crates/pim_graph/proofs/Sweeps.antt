@@ -185,9 +185,9 @@ module _ (g : GraphView) (sound : IsGraph g) where
           let not_again : has m c ≡ false = has-occurrences m c ∙ ap (λ (k : ℕ). nat_lt 0 k) gone in
           let here_once : occurrences e c ≡ 1 = once_of (occurrences e) (kids_of g x) c here (children_once g o p (kids_of g x) is.placed within refl) in
           let differ = count_differs (λ y. needed g t y || has (c ∷ m) y) (λ y. needed g t y || has m y) c
-              (λ y ne. let other : eqb c y ≡ false = ne_eqb c y (λ q. ne (sym q)) in ap (λ (b : Bool). needed g t y || (b || has m y)) other)
-              (or_right (needed g t c) (has (c ∷ m) c) (or_left (eqb c c) (has m c) (eq-eqb c c refl)))
-              (rw (done, not_again) refl) e in
+          (λ y ne. let other : eqb c y ≡ false = ne_eqb c y (λ q. ne (sym q)) in ap (λ (b : Bool). needed g t y || (b || has m y)) other)
+          (or_right (needed g t c) (has (c ∷ m) c) (or_left (eqb c c) (has m c) (eq-eqb c c refl)))
+          (rw (done, not_again) refl) e in
           omega arith
 
       -- what is held changes by one gate more and its children less

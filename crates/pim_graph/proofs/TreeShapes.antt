@@ -172,21 +172,23 @@ IsReadOnce g r = (x : ℕ) → x < r → all_reads g x ≡ 1
 pub tree_is : (g : GraphView) → IsGraph g → (r : ℕ) → r < length g.kids → (is_tree_at g r ≡ true) ↔ ((r + 1 ≡ length g.kids) × IsReadOnce g r)
 tree_is g sound r there = (
   λ h.
-  let parts = and_parts (all_below (λ x. eqb x r || eqb (all_reads g x) 1) n) (all_below (λ x. reaches g n r x) n) h in
-  let last = all_below-all (λ x. reaches g n r x) n parts.1 (n - 1) (omega arith) in
-  let low = reached_le g sound n r (n - 1) last in
-  (omega arith, λ x l. elim (or_cases (eqb x r) (eqb (all_reads g x) 1) (all_below-all (λ x. eqb x r || eqb (all_reads g x) 1) n parts.0 x (omega arith))) [
-    | inl e ↦ absurd (omega (arith, eqb-true x r e))
-    | inr e ↦ eqb-true (all_reads g x) 1 e
-  ]),
+      let parts = and_parts (all_below (λ x. eqb x r || eqb (all_reads g x) 1) n) (all_below (λ x. reaches g n r x) n) h in
+      let last = all_below-all (λ x. reaches g n r x) n parts.1 (n - 1) (omega arith) in
+      let low = reached_le g sound n r (n - 1) last in (
+        omega arith,
+        λ x l. elim (or_cases (eqb x r) (eqb (all_reads g x) 1) (all_below-all (λ x. eqb x r || eqb (all_reads g x) 1) n parts.0 x (omega arith))) [
+          | inl e ↦ absurd (omega (arith, eqb-true x r e))
+          | inr e ↦ eqb-true (all_reads g x) 1 e
+        ],
+      ),
   λ h.
-  let once = all_below-from (λ x. eqb x r || eqb (all_reads g x) 1) n (λ x l. elim (cases_eq x r) [
-    | inl e ↦ or_left (eqb x r) (eqb (all_reads g x) 1) (eq-eqb x r e)
-    | inr ne ↦ or_right (eqb x r) (eqb (all_reads g x) 1) (eq-eqb (all_reads g x) 1 (h.1 x (omega (arith, h.0, ne))))
-  ]) in
-  let same : suc r ≡ n = omega (arith, h.0) in
-  let all = all_below-from (λ x. reaches g n r x) n (λ x l. subst (λ (d : ℕ). reaches g d r x ≡ true) same (from_last g sound r h.0 h.1 r x (omega arith) (omega (arith, h.0)))) in
-  rw (once, all) refl,
+      let once = all_below-from (λ x. eqb x r || eqb (all_reads g x) 1) n (λ x l. elim (cases_eq x r) [
+        | inl e ↦ or_left (eqb x r) (eqb (all_reads g x) 1) (eq-eqb x r e)
+        | inr ne ↦ or_right (eqb x r) (eqb (all_reads g x) 1) (eq-eqb (all_reads g x) 1 (h.1 x (omega (arith, h.0, ne))))
+      ]) in
+      let same : suc r ≡ n = omega (arith, h.0) in
+      let all = all_below-from (λ x. reaches g n r x) n (λ x l. subst (λ (d : ℕ). reaches g d r x ≡ true) same (from_last g sound r h.0 h.1 r x (omega arith) (omega (arith, h.0)))) in
+      rw (once, all) refl,
 )
   where
     n : ℕ

@@ -161,7 +161,7 @@ module _ (g : GraphView) (sound : IsGraph g) where
     order-IsOrdering = record {
       placed = order-IsPlaced g sound;
       whole = λ x l.
-        let o = once x l in
-        let some : nat_lt 0 (occurrences (under fk r) x) ≡ true = grind (arith, nat_tests) in
-        ap (λ (xs : List ℕ). has xs x) order_is ∙ has-occurrences (under fk r) x ∙ some;
+          let o = once x l in
+          let some : nat_lt 0 (occurrences (under fk r) x) ≡ true = grind (arith, nat_tests) in
+          ap (λ (xs : List ℕ). has xs x) order_is ∙ has-occurrences (under fk r) x ∙ some;
     }

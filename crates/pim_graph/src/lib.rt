@@ -9,9 +9,9 @@ mod ordering;
 mod peaks;
 mod readers;
 mod spares;
-mod trees;
 #[cfg(test)]
 mod tests;
+mod trees;
 mod usages;
 mod walk;
 

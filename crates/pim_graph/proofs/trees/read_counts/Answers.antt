@@ -15,10 +15,10 @@ loop-gate-preserved c =
     record {
       len = len;
       counts = λ x l.
-        let before = c.loop-gate.invariant.counts x l in
-        let more = c.count_reads.ensures.counts x (omega (arith, c.loop-gate.invariant.len)) in
-        let cut = ap (λ (ks : List (List ℕ)). reads_in ks x) (drop_more kids gate [] (omega arith)) in
-        let list = ap (λ (ks : List ℕ). occurrences ks x) c.children.ensures.list in
-        omega arith;
+          let before = c.loop-gate.invariant.counts x l in
+          let more = c.count_reads.ensures.counts x (omega (arith, c.loop-gate.invariant.len)) in
+          let cut = ap (λ (ks : List (List ℕ)). reads_in ks x) (drop_more kids gate [] (omega arith)) in
+          let list = ap (λ (ks : List ℕ). occurrences ks x) c.children.ensures.list in
+          omega arith;
       room = reads_room c.children.result.now old new (length kids) gate c.loop-gate.invariant.len len c.children.ensures.few (λ x l. c.count_reads.ensures.counts x (omega (arith, c.loop-gate.invariant.len))) c.loop-gate.invariant.room;
     }

@@ -28,10 +28,12 @@ returns-then-not-are_read_once c =
     let last : r + 1 ≡ length g.kids = c.if-root-len.false ∙ c.len.ensures.count in
     let items = c.in_ok-counts.counts.items in
     let ones = counted_once g items r last c.in_ok-counts.ensures.counts in
-    let same : c.deref.result.now ≡ items = c.deref.ensures.value in
-    (sym (tree_no g r sound roots (root_there g r sound roots) (λ l once.
-    let every = subst (λ (xs : List ℕ). (x : ℕ) → x < r → slice_index xs x ≡ 1) (sym same) (ones.0 once) in
-    false≢true (sym c.if-not-are_read_once.true ∙ c.are_read_once.ensures.1 every))), sound)
+    let same : c.deref.result.now ≡ items = c.deref.ensures.value in (
+      sym (tree_no g r sound roots (root_there g r sound roots) (λ l once.
+          let every = subst (λ (xs : List ℕ). (x : ℕ) → x < r → slice_index xs x ≡ 1) (sym same) (ones.0 once) in
+          false≢true (sym c.if-not-are_read_once.true ∙ c.are_read_once.ensures.1 every))),
+      sound,
+    )
 
 pub returns : goal.returns
 returns c =
