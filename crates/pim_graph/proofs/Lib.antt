@@ -1,5 +1,6 @@
 pub mod Allotting
 mod Examples
+mod TreeExamples
 pub mod LowerBound
 pub mod Orderings
 pub mod Peaking

@@ -1,17 +1,16 @@
 -- No order of a tree holds fewer gates at once than the usage of its root. For each gate there is a place of the order at which
 -- the gates under it hold as many cells as its usage: of the places of its children with the greatest usages, the latest.
-use Rattle.std.proofs.Common.{◌≡◌, ◌≢◌, ◌⊎◌, ℕ, ◌+◌, ◌-◌, ◌<◌, ◌≤◌, zero, suc, max, Bool, true, false, cond, eqb, nat_lt, not, ◌&&◌, ◌||◌, List, [], ◌∷◌, ◌++◌, All, length, get_or, take, drop, count_by, map, refl, sym, ◌∙◌, ap, subst, arith, append_assoc, append-nil, inl, inr, slice_index, length-drop, add-one}
+use Rattle.std.proofs.Common.{◌≡◌, ◌⊎◌, ℕ, ◌+◌, ◌<◌, ◌≤◌, zero, suc, Bool, true, false, cond, eqb, nat_lt, not, ◌&&◌, ◌||◌, List, [], ◌∷◌, ◌++◌, length, get_or, take, drop, count_by, map, refl, sym, ◌∙◌, ap, subst, arith, inl, inr, slice_index, length-drop, add-one}
 use Rattle.std.specs.List.{flat_map}
 use Rattle.std.proofs.lemmas.Bool.{cases_eq, cases_lt, cases_Bool, false≢true, eq-eqb, eqb-true, ne_eqb, or_cases, or_left, or_right}
-use Rattle.std.proofs.lemmas.Bool.Decides.{nat_tests}
 use Rattle.std.proofs.lemmas.List.{take_more, drop_more, take_all, get_or-drop}
 use Rattle.std.proofs.lemmas.List.Sums.{sum_by-append}
 use Rattle.pim_graph.specs.Graphs.{GraphView, IsGraph, has, kids_of}
 use Rattle.pim_graph.specs.Peaks.{needed, read_by, peak}
 use Rattle.pim_graph.specs.Readers.{occurrences}
 use Rattle.pim_graph.specs.Trees.{IsOrdering}
-use Rattle.pim_graph.specs.Usages.{insert_falling, falling, most_raised, usage_of, usages}
-use Rattle.pim_graph.proofs.Fallings.{length_falling, usage_is, occ_falling}
+use Rattle.pim_graph.specs.Usages.{most_raised, usages}
+use Rattle.pim_graph.proofs.Fallings.{usage_is, occ_falling}
 use Rattle.pim_graph.proofs.Orderings.{has-append_left, has-get_or}
 use Rattle.pim_graph.proofs.Peaking.{peak_bounds}
 use Rattle.pim_graph.proofs.Placing.{count_push}
@@ -21,7 +20,6 @@ use Rattle.pim_graph.proofs.StableSorts.{AreAtMost, Falls, Falls-fold}
 use Rattle.pim_graph.proofs.Sweeps.{cu, needed_behind}
 use Rattle.pim_graph.proofs.TreeShapes.{IsReadOnce, below_has}
 use Rattle.pim_graph.proofs.Unders.{under, under_is, fk, fk_below, single}
-use Rattle.pim_graph.proofs.Visits.{AreBelow}
 
 -- sums along lists
 

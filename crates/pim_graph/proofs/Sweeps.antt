@@ -1,21 +1,21 @@
 -- In a tree a gate takes a cell and gives those of its children back, so a peak is a number that is swept along the order.
-use Rattle.std.proofs.Common.{◌≡◌, ◌≢◌, ◌⊎◌, ℕ, ◌+◌, ◌-◌, ◌<◌, ◌≤◌, zero, suc, max, Bool, true, false, cond, eqb, nat_lt, ◌||◌, List, [], ◌∷◌, ◌++◌, All, length, get_or, take, drop, count_by, map, refl, sym, ◌∙◌, ap, subst, arith, append_assoc, append-nil, inl, inr, slice_index, length-drop, drop-cons}
+use Rattle.std.proofs.Common.{◌≡◌, ℕ, ◌+◌, ◌-◌, ◌<◌, ◌≤◌, zero, suc, max, Bool, true, false, cond, eqb, nat_lt, ◌||◌, List, [], ◌∷◌, ◌++◌, All, length, get_or, take, drop, count_by, map, refl, sym, ◌∙◌, ap, subst, arith, append_assoc, append-nil, inl, inr, slice_index, length-drop}
 use Rattle.std.specs.List.{flat_map}
-use Rattle.std.proofs.lemmas.Bool.{cases_eq, cases_lt, cases_Bool, false≢true, eq-eqb, ne_eqb, or_left, or_right}
+use Rattle.std.proofs.lemmas.Bool.{cases_eq, cases_Bool, false≢true, eq-eqb, ne_eqb, or_left, or_right}
 use Rattle.std.proofs.lemmas.Bool.Decides.{nat_tests}
 use Rattle.std.proofs.lemmas.List.{take_more, drop_more, get_or-drop}
 use Rattle.pim_graph.specs.Graphs.{GraphView, IsGraph, has, kids_of}
-use Rattle.pim_graph.specs.Orders.{falling_kids, order}
-use Rattle.pim_graph.specs.Peaks.{IsPlaced, needed, read_by, peak_from, peak}
+use Rattle.pim_graph.specs.Orders.{order}
+use Rattle.pim_graph.specs.Peaks.{needed, read_by, peak_from, peak}
 use Rattle.pim_graph.specs.Readers.{occurrences, reads}
 use Rattle.pim_graph.specs.Trees.{IsOrdering}
-use Rattle.pim_graph.specs.Usages.{most_raised, usage_of, usages}
+use Rattle.pim_graph.specs.Usages.{most_raised, usages}
 use Rattle.pim_graph.proofs.Fallings.{length_falling, usage_is}
-use Rattle.pim_graph.proofs.Placing.{children_once, count_push, once_at_most}
+use Rattle.pim_graph.proofs.Placing.{children_once, count_push}
 use Rattle.pim_graph.proofs.ReadLemmas.{has-occurrences, read_by-reads, count_same, count_differs}
 use Rattle.pim_graph.proofs.Reaching.{All-has, place_of, has-earlier, has-later, reader_behind, read_by-has}
-use Rattle.pim_graph.proofs.TreeShapes.{IsReader, IsReadOnce, reader, reader_above, reader_has, kids_below, below_has, reads_reader}
-use Rattle.pim_graph.proofs.Unders.{under, under_is, fk, fk_below, order_is, order-IsOrdering, occ_append}
+use Rattle.pim_graph.proofs.TreeShapes.{IsReader, IsReadOnce, reader, reader_has, kids_below, below_has, reads_reader}
+use Rattle.pim_graph.proofs.Unders.{under, under_is, fk, fk_below, order_is, order-IsOrdering}
 use Rattle.pim_graph.proofs.Visits.{AreBelow}
 
 -- how many cells are held at most, where h are held before and each gate gives back as many as it has children

@@ -1,5 +1,5 @@
 -- `Some` is answered of trees alone: with the peak of their order, which no order is below.
-use Rattle.std.proofs.Common.{◌≡◌, ℕ, ◌+◌, ◌<◌, ◌≤◌, Bool, true, false, cond, List, [], ◌∷◌, length, Option, Some, None, refl, sym, ◌∙◌, ap, subst, slice_index}
+use Rattle.std.proofs.Common.{◌≡◌, ℕ, ◌+◌, ◌≤◌, Bool, true, false, cond, List, [], ◌∷◌, length, Option, Some, None, refl, sym, ◌∙◌, subst, slice_index}
 use Rattle.std.specs.Prelude.{IfSome}
 use Rattle.pim_graph.specs.Graphs.{GraphView, IsGraph}
 use Rattle.pim_graph.specs.Orders.{order}

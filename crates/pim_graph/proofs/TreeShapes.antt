@@ -1,10 +1,10 @@
 -- A tree's root is the last gate, and each gate before it has one reader. Conversely such a gate reaches all.
-use Rattle.std.proofs.Common.{◌≡◌, ◌≢◌, ◌⊎◌, ℕ, ◌+◌, ◌-◌, ◌<◌, ◌≤◌, zero, suc, Bool, true, false, cond, eqb, nat_lt, ◌&&◌, ◌||◌, List, [], ◌∷◌, length, get_or, drop, All, refl, sym, ◌∙◌, ap, subst, arith, inl, inr, None, Some, slice_index}
+use Rattle.std.proofs.Common.{◌≡◌, ◌≢◌, ℕ, ◌+◌, ◌-◌, ◌<◌, ◌≤◌, zero, suc, Bool, true, false, eqb, nat_lt, ◌||◌, List, [], ◌∷◌, length, get_or, All, refl, sym, ◌∙◌, ap, subst, arith, inl, inr, None, Some, slice_index}
 use Rattle.std.specs.Prelude.{◌↔◌}
 use Rattle.std.specs.List.{list_any}
 use Rattle.std.proofs.lemmas.Bool.{cases_eq, cases_lt, cases_Bool, false≢true, or_cases, or_left, or_right, and_parts, eqb-true, eq-eqb}
 use Rattle.std.proofs.lemmas.Bool.Decides.{nat_tests}
-use Rattle.std.proofs.lemmas.List.{get_or_past, drop_more}
+use Rattle.std.proofs.lemmas.List.{get_or_past}
 use Rattle.pim_graph.specs.Graphs.{GraphView, IsGraph, has, kids_of}
 use Rattle.pim_graph.specs.Readers.{occurrences, reads}
 use Rattle.pim_graph.specs.Trees.{reads_in, all_reads, reaches, all_below, is_tree_at, tree_with, tree_of}

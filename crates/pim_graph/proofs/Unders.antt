@@ -1,17 +1,17 @@
 -- The gates under one, each as often as there are ways down to it; in a tree each once, and they are its order.
-use Rattle.std.proofs.Common.{◌≡◌, ◌≢◌, ℕ, ◌+◌, ◌<◌, ◌≤◌, zero, suc, Bool, true, false, cond, eqb, nat_lt, List, [], ◌∷◌, ◌++◌, length, fold, refl, sym, ◌∙◌, ap, subst, arith, append_assoc, append-nil, inl, inr, slice_index}
+use Rattle.std.proofs.Common.{◌≡◌, ℕ, ◌+◌, ◌<◌, ◌≤◌, zero, suc, Bool, true, false, cond, eqb, nat_lt, List, [], ◌∷◌, ◌++◌, length, fold, refl, sym, ◌∙◌, ap, subst, arith, append_assoc, append-nil, inl, inr, slice_index}
 use Rattle.std.specs.List.{flat_map}
-use Rattle.std.proofs.lemmas.Bool.{cases_eq, cases_lt, cases_Bool, eq-eqb}
+use Rattle.std.proofs.lemmas.Bool.{cases_eq, cases_lt, eq-eqb}
 use Rattle.std.proofs.lemmas.Bool.Decides.{nat_tests}
 use Rattle.pim_graph.specs.Graphs.{GraphView, IsGraph, has, kids_of}
 use Rattle.pim_graph.specs.Orders.{visited, falling_kids, order}
 use Rattle.pim_graph.specs.Readers.{occurrences, reads}
-use Rattle.pim_graph.specs.Trees.{all_reads, IsOrdering}
+use Rattle.pim_graph.specs.Trees.{IsOrdering}
 use Rattle.pim_graph.specs.Usages.{falling, usages}
 use Rattle.pim_graph.proofs.Fallings.{occ_falling}
 use Rattle.pim_graph.proofs.Orderings.{order-IsPlaced}
 use Rattle.pim_graph.proofs.ReadLemmas.{has-occurrences}
-use Rattle.pim_graph.proofs.TreeShapes.{IsReader, IsReadOnce, reader, reader_above, reads_reader, last_unread}
+use Rattle.pim_graph.proofs.TreeShapes.{IsReadOnce, reader, reader_above, reads_reader, last_unread}
 use Rattle.pim_graph.proofs.Visits.{AreBelow, ReadBelow, visited_is}
 use Rattle.pim_graph.proofs.Walks.{ReadBelow-falling}
 

@@ -1,4 +1,4 @@
-use Rattle.std.proofs.Common.{◌≡◌, ◌+◌, ◌<◌, ℕ, [], length, drop, List, arith, ap}
+use Rattle.std.proofs.Common.{◌≡◌, ℕ, [], length, List, arith, ap}
 use Rattle.std.proofs.lemmas.List.{drop_more}
 use Rattle.pim_graph.specs.Readers.{occurrences}
 use Rattle.pim_graph.specs.Trees.{reads_in}

@@ -1,5 +1,4 @@
 use Rattle.std.proofs.Common.{◌≡◌, ◌+◌, ◌<◌, ◌∷◌, [], ◌∙◌, Some, ℕ, List, sym, subst, length, arith, ap, get_or, slice_index}
-use Rattle.pim_graph.specs.Trees.{all_reads}
 use Rattle.pim_graph.specs.Usages.{usages}
 use Rattle.pim_graph.proofs.TreeShapes.{one_root, root_there, tree_none, tree_no, tree_yes, counted_once}
 use Rattle.std.proofs.lemmas.Bool.{false≢true}
