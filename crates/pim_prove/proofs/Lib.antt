@@ -1,0 +1,5 @@
+mod Examples
+pub mod Cells
+pub mod Cleaning
+pub mod Marking
+pub mod Steadiness

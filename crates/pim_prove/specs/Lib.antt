@@ -1,0 +1,4 @@
+pub mod Clean
+pub mod Steady
+pub mod Vectors
+pub mod Proving

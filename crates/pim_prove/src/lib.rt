@@ -1,0 +1,13 @@
+//! Whether a program computes a netlist: for every vector and whatever the other cells hold, or at which vector it first doesn't.
+#![tactic(auto)]
+
+mod fault;
+mod marks;
+mod proving;
+mod unset;
+mod verdict;
+
+pub use fault::ProveFault;
+pub use proving::{MAX_PROVE_INPUTS, prove};
+pub use unset::{Unset, first_unset};
+pub use verdict::Verdict;
