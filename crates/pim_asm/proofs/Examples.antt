@@ -1,18 +1,6 @@
--- Worked examples of assembly and of listings, by computation.
-use Rattle.std.proofs.Common.{◌≡◌, ℕ, true, false, List, [], ◌∷◌, ◌++◌, Some, None, Ok, Err, codes, refl}
-use Rattle.std.specs.Fmt.{digits}
-use Rattle.pim_io.specs.Words.{number_of}
-use Rattle.pim_isa.specs.Programs.{ProgramView}
-use Rattle.pim_isa.specs.declared.target.Target.TheVariants.{Magic, Plim}
-use Rattle.pim_isa.specs.declared.instr.Ins.TheVariants as ins
-use Rattle.pim_isa.specs.declared.instr.Operand.TheVariants as operand
-use Rattle.pim_isa.specs.declared.instr.Instr.TheVariants.{Init, Nor, Rm3}
-use Rattle.pim_isa.specs.declared.invalid.Invalid.TheVariants as invalid
-use Rattle.pim_text.specs.InstrForms.{not_of, nor_of, rm3_of}
-use Rattle.pim_asm.specs.declared.fault.AsmFault.TheVariants as faults
-use Rattle.pim_asm.specs.Assembly.{asm_of}
+-- Worked examples of words, labels and names, by computation.
+use Rattle.std.proofs.Common.{◌≡◌, true, false, [], ◌∷◌, ◌++◌, Some, None, codes, refl}
 use Rattle.pim_asm.specs.Labels.{label_of, quoted}
-use Rattle.pim_asm.specs.Listing.{listing_of}
 use Rattle.pim_asm.specs.Names.{is_name}
 use Rattle.pim_asm.specs.Words.{words}
 

@@ -1,3 +1,4 @@
+mod AsmExamples
 mod Examples
 pub mod BodyLemmas
 pub mod LabelLemmas

@@ -1,15 +1,14 @@
 -- A listing is assembled to the program that it lists.
-use Rattle.std.proofs.Common.{◌≡◌, ℕ, zero, suc, ◌+◌, ◌-◌, ◌*◌, ◌/◌, ◌%◌, ◌^◌, ◌<◌, ◌≤◌, Bool, true, false, not, cond, leb, ltb, eqb, ◌&&◌, ◌||◌, List, [], ◌∷◌, ◌++◌, length, get_or, take, drop, Option, Some, None, option_map, Result, Ok, Err, codes, refl, ap, sym, ◌∙◌, subst, append_assoc, arith, slice_range}
+use Rattle.std.proofs.Common.{◌≡◌, ℕ, suc, ◌+◌, ◌-◌, ◌*◌, ◌/◌, ◌%◌, ◌^◌, ◌<◌, ◌≤◌, Bool, true, false, not, cond, leb, ltb, eqb, ◌&&◌, List, [], ◌∷◌, ◌++◌, length, get_or, take, Option, Some, None, option_map, Result, Ok, codes, refl, ap, sym, ◌∙◌, subst, append_assoc, arith}
 use Rattle.std.specs.Fmt.{decimal}
 use Rattle.std.specs.List.{list_all, join_with_byte, AllByRecursion}
-use Rattle.std.specs.Str.{bytes_eq}
-use Rattle.std.proofs.lemmas.Bool.{and_parts, not-true, leb-true, ltb-true, ne_eqb, lt-ltb, le-leb}
+use Rattle.std.proofs.lemmas.Bool.{and_parts, not-true, ne_eqb, le-leb}
 use Rattle.std.proofs.lemmas.Bool.Decides.{nat_tests}
 use Rattle.std.proofs.lemmas.List.{append-nil, length-append, take_at}
 use Rattle.std.proofs.lemmas.List.Folds.{list_all-append}
 use Rattle.pim_io.specs.Lines.{LineView, lines_after, lines}
-use Rattle.pim_io.specs.Names.{IsLabel, is_label}
-use Rattle.pim_io.specs.Words.{is_digit, digits_after, number_of, is_blank, close}
+use Rattle.pim_io.specs.Names.{is_label}
+use Rattle.pim_io.specs.Words.{is_digit, digits_after, number_of}
 use Rattle.pim_isa.specs.declared.draft.TheConstants.{MAX_CELLS}
 use Rattle.pim_isa.specs.declared.target.Target.{Target}
 use Rattle.pim_isa.specs.declared.target.Target.TheVariants.{Magic, Plim}
@@ -21,16 +20,15 @@ use Rattle.pim_isa.specs.declared.instr.Instr.TheVariants.{Init, Nor, Rm3}
 use Rattle.pim_isa.specs.Programs.{ProgramView}
 use Rattle.pim_isa.specs.Sound.{IsProgram}
 use Rattle.pim_text.specs.Fields.{lacks}
-use Rattle.pim_text.specs.InstrForms.{instr_of_words}
 use Rattle.pim_text.specs.LineLaws.{ReadLines, ProgramLines, LackNewlines, InstrWords, IsPlainWord, is_plain}
 use Rattle.pim_text.specs.Spelled.{HasLine, HasPortLine, HasLines}
 use Rattle.pim_text.specs.Text.{target_word, target_line, counted_text, instr_text, nor_words, instr_words}
 use Rattle.pim_asm.specs.declared.fault.AsmFault.{AsmFault}
-use Rattle.pim_asm.specs.Assembly.{Body, Stage, Start, Aimed, Inside, begun, words_read, read_from, asm_of}
-use Rattle.pim_asm.specs.Labels.{hex_value, hex_digit, is_clear, unescaped, Between, Escape, Half, unquoted, label_of, escaped, escaped_text, quoted}
+use Rattle.pim_asm.specs.Assembly.{Stage, Start, Aimed, Inside, begun, words_read, read_from, asm_of}
+use Rattle.pim_asm.specs.Labels.{hex_value, hex_digit, is_clear, unescaped, Between, unquoted, label_of, escaped, escaped_text, quoted}
 use Rattle.pim_asm.specs.Listing.{port_listing, ports_listing, instr_listing, instrs_listing, listing_of}
 use Rattle.pim_asm.specs.Names.{begins_name, is_name, known_cell}
-use Rattle.pim_asm.specs.Statements.{Input, Output, Does, port_of, statement_of}
+use Rattle.pim_asm.specs.Statements.{port_of}
 use Rattle.pim_asm.specs.Words.{is_quote, ends_word, words_after, words}
 use Rattle.pim_asm.specs.inner.Bytes.{AreBytes, HasByteLabel}
 use Rattle.pim_asm.proofs.LabelLemmas.{unescaped-clear}

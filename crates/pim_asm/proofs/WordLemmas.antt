@@ -1,10 +1,9 @@
 -- The words of a line of assembly, cut at its blanks.
-use Rattle.std.proofs.Common.{◌≡◌, ℕ, suc, zero, ◌+◌, ◌-◌, ◌<◌, ◌≤◌, Bool, true, false, not, cond, eqb, ◌||◌, List, [], ◌∷◌, ◌++◌, length, get_or, take, drop, refl, ap, sym, ◌∙◌, arith, add-one, drop-cons}
-use Rattle.std.proofs.lemmas.Bool.{both_ways}
+use Rattle.std.proofs.Common.{◌≡◌, ℕ, suc, ◌+◌, ◌<◌, Bool, true, false, not, ◌||◌, List, [], ◌∷◌, ◌++◌, length, get_or, take, drop, refl, ap, sym, ◌∙◌, arith, add-one, drop-cons}
 use Rattle.std.proofs.lemmas.Bool.Decides.{nat_tests}
-use Rattle.std.proofs.lemmas.List.{take_rest, take_more}
+use Rattle.std.proofs.lemmas.List.{take_more}
 use Rattle.pim_io.specs.Words.{is_blank, close}
-use Rattle.pim_asm.specs.Words.{is_quote, is_semicolon, turned, ends_word, words_after, words}
+use Rattle.pim_asm.specs.Words.{is_quote, is_semicolon, ends_word, words_after, words}
 
 -- a blank is no semicolon, and neither is a quote
 
@@ -40,7 +39,7 @@ first_semicolon b text h k =
     let semicolon : is_semicolon b ≡ true = grind (arith, nat_tests) in
     rw (h, semicolon) refl
 
-pub no_word : (text : List ℕ) → (0 < length text → is_blank (get_or text 0 0) ≡ false) → (0 < length text → (is_blank (get_or text 0 0) || is_semicolon (get_or text 0 0)) ≡ true) → words text ≡ []
+pub no_word : (text : List ℕ) → (0 < length text → is_blank (get_or text 0 0) ≡ false) → (0 < length text → ends_word false (get_or text 0 0) ≡ true) → words text ≡ []
 no_word [] first stops = refl
 no_word (b ∷ text) first stops = first_semicolon b text (first (omega arith)) (stops (omega arith))
 

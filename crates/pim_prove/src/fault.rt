@@ -28,6 +28,11 @@ pub enum ProveFault {
 }
 
 impl From<NoMemory> for ProveFault {
+    ghost use Rattle.std.specs.Prelude.{◌≡◌};
+    ghost use Rattle.pim_prove.specs.declared.fault.ProveFault.TheVariants as faults;
+
+    ghost from_gives = { λ _ fault. fault ≡ faults.NoMemory };
+
     fn from(_error: NoMemory) -> ProveFault {
         ProveFault::NoMemory
     }

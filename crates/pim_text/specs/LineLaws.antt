@@ -1,7 +1,7 @@
 -- Laws of the lines of a program's text: a line is read as what it spells, and no other line is.
-use Rattle.std.specs.Prelude.{◌≡◌, ℕ, ◌+◌, ◌^◌, ◌<◌, Bool, true, ◌==◌, ◌&&◌, not, nat_lt, List, [], ◌∷◌, ◌++◌, length, codes, decimal, Option, Some}
+use Rattle.std.specs.Prelude.{◌≡◌, ℕ, ◌+◌, ◌^◌, ◌<◌, Bool, true, ◌==◌, ◌&&◌, not, nat_lt, List, [], ◌∷◌, ◌++◌, length, decimal, Option, Some}
 use Rattle.std.specs.List.{list_all, join_with_byte, AllByRecursion}
-use Rattle.pim_io.specs.Lines.{LineView, lines_after}
+use Rattle.pim_io.specs.Lines.{lines_after}
 use Rattle.pim_io.specs.Names.{IsLabel, is_label}
 use Rattle.pim_io.specs.Words.{number_of}
 use Rattle.pim_isa.specs.declared.target.Target.{Target}
@@ -27,7 +27,8 @@ pub record ReadLines : Type 0 where
 pub record OneLine : Type 0 where
   pub target : (line : List ℕ) (target : Target) → target_of line ≡ Some target → line ≡ target_line target
   pub counted : (word line : List ℕ) (n : ℕ) → counted_of word line ≡ Some n → (line ≡ word ++ decimal n) × (n < 2 ^ 32)
-  pub port : (word line : List ℕ) (port : Port) → port_of word line ≡ Some port → (line ≡ port_line word port) × HasPortLine port
+  pub port : (word line : List ℕ) (port : Port) → port_of word line ≡ Some port
+      → (line ≡ port_line word port) × HasPortLine port
   pub instr : (line : List ℕ) (i : Instr) → instr_of line ≡ Some i → (line ≡ instr_text i) × HasLine i
 
 -- A program has lines.
@@ -57,6 +58,7 @@ pub record IsPlainWord (word : List ℕ) : Type 0 where
 pub record InstrWords : Type 0 where
   pub joined : (i : Instr) → instr_text i ≡ join_with_byte 32 (instr_words i)
   pub plain : (i : Instr) → HasLine i → AllByRecursion IsPlainWord (instr_words i)
-  pub read : (cell : List ℕ → Option ℕ) (i : Instr) → ((n : ℕ) → n < 2 ^ 32 → cell (decimal n) ≡ Some n) → HasLine i → instr_of_words cell (instr_words i) ≡ Some i
+  pub read : (cell : List ℕ → Option ℕ) (i : Instr) → ((n : ℕ) → n < 2 ^ 32 → cell (decimal n) ≡ Some n) → HasLine i
+      → instr_of_words cell (instr_words i) ≡ Some i
   pub plain_number : (n : ℕ) → n < 2 ^ 32 → IsPlainWord (decimal n)
   pub number : (n : ℕ) → n < 2 ^ 32 → number_of (decimal n) ≡ Some n

@@ -6,10 +6,12 @@ use std::alloc::{AllocError, Global};
 use std::test::Fail;
 
 /// The text of a two-input AND.
-const TEXT: &[u8] = b"pim 1\ntarget magic\ncells 5\ninput 0 i0\ninput 1 i1\noutput 4 o0\ncycles 4\ninit 2 3 4\nnot 2 1\nnot 3 0\nnor 4 2 3\nend\n";
+const TEXT: &[u8] =
+    b"pim 1\ntarget magic\ncells 5\ninput 0 i0\ninput 1 i1\noutput 4 o0\ncycles 4\ninit 2 3 4\nnot 2 1\nnot 3 0\nnor 4 2 3\nend\n";
 
 /// Its binary form: the target, the cells, the inputs, the output, and the instructions.
-const FORM: &[u8] = b"pim2\n\x00\x05\x02\x00\x02i0\x01\x02i1\x01\x04\x02o0\x04\x00\x03\x02\x03\x04\x01\x02\x01\x01\x03\x00\x02\x04\x02\x03";
+const FORM: &[u8] =
+    b"pim2\n\x00\x05\x02\x00\x02i0\x01\x02i1\x01\x04\x02o0\x04\x00\x03\x02\x03\x04\x01\x02\x01\x01\x03\x00\x02\x04\x02\x03";
 
 /// The form with this byte at a place.
 fn with(alloc: Global, place: usize, byte: u8) -> Result<Vec<u8>, AllocError> {

@@ -44,7 +44,14 @@ fn the_cells_of_a_binary_program_are_judged(rt: HostRuntime) -> Result<(), Fail>
     larger.extend_from_slice(b"\x81\x80\x40")?;
     larger.extend_from_slice(tail)?;
     let ending = call_on(alloc, &words, b"", &larger)?;
-    stops(&rt, alloc, &ending, Status::TooLarge, b"", "too large: cells")
+    stops(
+        &rt,
+        alloc,
+        &ending,
+        Status::TooLarge,
+        b"",
+        "too large: cells",
+    )
 }
 
 #[test]
@@ -52,10 +59,22 @@ fn assembly_is_judged(rt: HostRuntime) -> Result<(), Fail> {
     let alloc = rt.alloc();
     let cases: [(&'static [u8], &'static str); 6] = [
         (b"", "assembly line 1"),
-        (b"target magic\ncells 5\n; first\ncells 5\n", "assembly line 4"),
-        (b"target magic\ncells 5\nnot y 1\n", "assembly name in line 3"),
-        (b"target magic\ncells 2\nlet x 0\nlet x 1\n", "assembly name in line 4"),
-        (b"target magic\ncells 2\ninit\n", "program instruction 0 init list"),
+        (
+            b"target magic\ncells 5\n; first\ncells 5\n",
+            "assembly line 4",
+        ),
+        (
+            b"target magic\ncells 5\nnot y 1\n",
+            "assembly name in line 3",
+        ),
+        (
+            b"target magic\ncells 2\nlet x 0\nlet x 1\n",
+            "assembly name in line 4",
+        ),
+        (
+            b"target magic\ncells 2\ninit\n",
+            "program instruction 0 init list",
+        ),
         (b"target magic\ncells 2\ninput 1 \"a\"\n", "program port 0"),
     ];
     for (input, detail) in cases {

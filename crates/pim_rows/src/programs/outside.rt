@@ -25,8 +25,10 @@ fn a_program_is_not_read(rt: HostRuntime) -> Result<(), Fail> {
 #[test]
 fn an_input_is_not_read(rt: HostRuntime) -> Result<(), Fail> {
     let alloc = rt.alloc();
-    let commands: [(&'static [&'static str], &'static [u8]); 2] =
-        [(&["asm"], LISTING), (&["convert", "--form", "1"], BINARY)];
+    let commands: [(&'static [&'static str], &'static [u8]); 2] = [
+        (&["asm"], LISTING),
+        (&["convert", "--form", "1"], BINARY),
+    ];
     for (words, bytes) in commands {
         for k in 0..bytes.len() as u64 + 1 {
             let mut program = SliceSource::new(b"");
@@ -44,8 +46,10 @@ fn an_input_is_not_read(rt: HostRuntime) -> Result<(), Fail> {
 #[test]
 fn a_failing_write_leaves_a_front(rt: HostRuntime) -> Result<(), Fail> {
     let alloc = rt.alloc();
-    let commands: [(&'static [&'static str], &'static [u8]); 2] =
-        [(&["list", "program"], LISTING), (&["explain", "program"], LIVES)];
+    let commands: [(&'static [&'static str], &'static [u8]); 2] = [
+        (&["list", "program"], LISTING),
+        (&["explain", "program"], LIVES),
+    ];
     for (words, text) in commands {
         for k in [0, 1, text.len() - 1] {
             let front = text.get(..k).ok_or("a shorter front")?;
@@ -53,7 +57,14 @@ fn a_failing_write_leaves_a_front(rt: HostRuntime) -> Result<(), Fail> {
             let mut input = SliceSource::new(b"");
             let mut output = MemSink::new(alloc, 4_096, 1, &[k as u64])?;
             let ending = call_from(alloc, words, &mut program, &mut input, &mut output)?;
-            stops(&rt, alloc, &ending, Status::WriteFault, front, "write fault")?;
+            stops(
+                &rt,
+                alloc,
+                &ending,
+                Status::WriteFault,
+                front,
+                "write fault",
+            )?;
         }
     }
     Ok(())

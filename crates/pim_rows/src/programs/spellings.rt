@@ -32,7 +32,8 @@ fn a_listing_is_assembled(rt: HostRuntime) -> Result<(), Fail> {
 
 #[test]
 fn names_are_assembled(rt: HostRuntime) -> Result<(), Fail> {
-    let text = b"; and gate\ntarget magic\ncells 5\nlet x 2\ninput 0 \"i0\"\ninput 1 \"i1\"\noutput 4 \"o0\"\ninit x 3 4\nnot x 1\nnot 3 0\nnor 4 x 3\n";
+    let text =
+        b"; and gate\ntarget magic\ncells 5\nlet x 2\ninput 0 \"i0\"\ninput 1 \"i1\"\noutput 4 \"o0\"\ninit x 3 4\nnot x 1\nnot 3 0\nnor 4 x 3\n";
     let ending = call_on(rt.alloc(), &["asm"], b"", text)?;
     gives(&rt, &ending, AND_PROGRAM);
     Ok(())

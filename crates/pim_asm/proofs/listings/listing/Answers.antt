@@ -1,7 +1,6 @@
-use Rattle.std.proofs.Common.{◌≡◌, ℕ, List, Ok, subst, rules}
+use Rattle.std.proofs.Common.{◌≡◌, List, subst, rules}
 use Rattle.std.specs.List.{AllByRecursion}
 use Rattle.pim_isa.specs.declared.port.Port.{Port}
-use Rattle.pim_asm.specs.Assembly.{asm_of}
 use Rattle.pim_asm.specs.Listing.{listing_of}
 use Rattle.pim_asm.specs.inner.Bytes.{HasByteLabel}
 use Rattle.pim_asm.proofs.ReadBack.{asm_of-listing}
