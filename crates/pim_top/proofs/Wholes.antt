@@ -1,5 +1,5 @@
 -- What follows of how a command ends that writes its text whole.
-use Rattle.std.proofs.Common.{◌≡◌, ◌⊎◌, ℕ, List, ◌++◌, Option, None, Some, Result, Ok, Err, inl, inr, refl, ◌∙◌, subst, arith}
+use Rattle.std.proofs.Common.{sym, ◌≡◌, ◌⊎◌, ℕ, List, ◌++◌, Option, None, Some, Result, Ok, Err, inl, inr, refl, ◌∙◌, subst, arith}
 use Rattle.pim_io.specs.Outside.{Rose, Told}
 use Rattle.pim_words.specs.declared.command.Command.{Command}
 use Rattle.pim_words.specs.declared.command.Command.TheVariants.{Prove}

@@ -18,8 +18,8 @@ use pim_debug::DebugFault;
 use pim_file::FileFault;
 use pim_io::{Sink, SinkFault, tell_writes, write_all, write_pieces};
 use pim_isa::Invalid;
-use pim_prove::{ProveFault, Unset};
 use pim_net::{Kind, Names, NetFault};
+use pim_prove::{ProveFault, Unset};
 
 /// Writes the note of an answer, as far as the sink takes it: none where all was done.
 pub fn tell<E: Sink>(answer: &Result<(), Refusal>, notes: &mut E)

@@ -1,5 +1,5 @@
 -- What `prove` says of a program file and a netlist.
-use Rattle.std.specs.Prelude.{◌≡◌, ◌≤◌, ◌^◌, ℕ, List, ◌++◌, Option, None, Some, Result, Ok, Err, codes, decimal, length}
+use Rattle.std.specs.Prelude.{◌≡◌, ◌≤◌, ◌^◌, ℕ, List, ◌++◌, None, Some, Result, Ok, Err, codes, decimal, length}
 use Rattle.pim_io.specs.declared.limits.TheConstants.{MAX_INPUT, MAX_PROGRAM}
 use Rattle.pim_isa.specs.Programs.{ProgramView}
 use Rattle.pim_net.specs.Netlist.{DraftView, NetView, draft_of}

@@ -1,8 +1,6 @@
 -- A program and a netlist that `prove` takes are compared.
-use Rattle.std.proofs.Common.{◌≡◌, ◌⊎◌, ℕ, List, Result, Err, inl, inr, refl, sym, ◌∙◌}
-use Rattle.pim_isa.specs.Programs.{ProgramView}
+use Rattle.std.proofs.Common.{◌≡◌, ◌⊎◌, ℕ, List, Err, inl, inr, refl}
 use Rattle.pim_net.specs.Netlist.{draft_of}
-use Rattle.pim_prove.specs.Proving.{refusal_of}
 use Rattle.pim_words.specs.declared.command.Command.TheVariants as commands
 use Rattle.pim_top.specs.Answers.{EndsFine}
 use Rattle.pim_top.specs.Statuses.{IsWanting, judgement_status}
