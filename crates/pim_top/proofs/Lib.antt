@@ -1,6 +1,7 @@
 mod Examples
 pub mod JudgedLines
 pub mod NextLine
+pub mod LineStates
 pub mod WalkStates
 pub mod WalkSteps
 pub mod Told

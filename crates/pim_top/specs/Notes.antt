@@ -8,6 +8,8 @@ use Rattle.pim_blif.specs.declared.fault.BlifFault.{BlifFault}
 use Rattle.pim_blif.specs.declared.fault.BlifFault.TheVariants as blif
 use Rattle.pim_compile.specs.declared.refusal.Refusal.{Refusal as Compiler}
 use Rattle.pim_compile.specs.declared.refusal.Refusal.TheVariants as compiler
+use Rattle.pim_debug.specs.declared.fault.DebugFault.{DebugFault}
+use Rattle.pim_debug.specs.declared.fault.DebugFault.TheVariants as debug
 use Rattle.pim_file.specs.declared.fault.FileFault.{FileFault}
 use Rattle.pim_file.specs.declared.fault.FileFault.TheVariants as file
 use Rattle.pim_isa.specs.declared.invalid.Invalid.{Invalid}
@@ -143,6 +145,18 @@ prove_text prove.NoMemory = wanting
 abbrev pub unequal_text : List ℕ → ℕ → List ℕ
 unequal_text vector output = codes "unequal " ++ (vector ++ (codes " output " ++ decimal output))
 
+-- that the command in a line is wrong, and how
+abbrev pub debug_line : ℕ → List ℕ → List ℕ → List ℕ
+debug_line line text number = bad (codes "debug line " ++ (decimal line ++ (text ++ number)))
+
+-- why a command is refused
+abbrev pub debug_text : ℕ → DebugFault → List ℕ
+debug_text line debug.BadCommand = debug_line line (codes ": bad command") []
+debug_text line (debug.NoSuchBreak n) = debug_line line (codes ": no such break ") (decimal n)
+debug_text line (debug.OutOfProgram k) = debug_line line (codes ": out of program ") (decimal k)
+debug_text line (debug.NoSuchCell c) = debug_line line (codes ": no such cell ") (decimal c)
+debug_text line debug.NoMemory = wanting
+
 -- why bytes are refused
 abbrev pub judgement_text : Judgement → List ℕ
 judgement_text (judgement.Netlist fault) = netlist_text fault
@@ -152,6 +166,7 @@ judgement_text (judgement.Assembly fault) = asm_text fault
 judgement_text (judgement.Prove fault) = prove_text fault
 judgement_text (judgement.Unequal vector output) = unequal_text vector output
 judgement_text (judgement.Vector n) = bad (codes "vector line " ++ decimal n)
+judgement_text (judgement.Command n fault) = debug_text n fault
 judgement_text judgement.TooManyLines = large (codes "rows")
 judgement_text judgement.NoMemory = wanting
 

@@ -8,6 +8,8 @@ use Rattle.pim_blif.specs.declared.fault.BlifFault.{BlifFault}
 use Rattle.pim_blif.specs.declared.fault.BlifFault.TheVariants as blif
 use Rattle.pim_compile.specs.declared.refusal.Refusal.{Refusal as Compiler}
 use Rattle.pim_compile.specs.declared.refusal.Refusal.TheVariants as compiler
+use Rattle.pim_debug.specs.declared.fault.DebugFault.{DebugFault}
+use Rattle.pim_debug.specs.declared.fault.DebugFault.TheVariants as debug
 use Rattle.pim_file.specs.declared.fault.FileFault.{FileFault}
 use Rattle.pim_file.specs.declared.fault.FileFault.TheVariants as file
 use Rattle.pim_net.specs.declared.fault.NetFault.{NetFault}
@@ -84,6 +86,11 @@ prove_status prove.Nodes = status.TooLarge
 prove_status (prove.NotClean unset) = status.BadInput
 prove_status prove.NoMemory = status.NoMemory
 
+-- a command that is refused is a bad input
+abbrev pub debug_status : DebugFault → Status
+debug_status debug.NoMemory = status.NoMemory
+debug_status fault = status.BadInput
+
 -- the status of a judgement
 abbrev pub judgement_status : Judgement → Status
 judgement_status (judgement.Netlist fault) = netlist_status fault
@@ -93,6 +100,7 @@ judgement_status (judgement.Assembly fault) = asm_status fault
 judgement_status (judgement.Prove fault) = prove_status fault
 judgement_status (judgement.Unequal vector output) = status.Unequal
 judgement_status (judgement.Vector n) = status.BadInput
+judgement_status (judgement.Command n fault) = debug_status fault
 judgement_status judgement.TooManyLines = status.TooLarge
 judgement_status judgement.NoMemory = status.NoMemory
 

@@ -1,6 +1,6 @@
 //! Why bytes are refused, by what they say alone.
 ghost use Rattle.std.specs.Prelude.{◌≡◌};
-ghost use Rattle.pim_top.specs.Statuses.{aiger_status, asm_status, blif_status, compiler_status, file_status, judgement_status, net_status, netlist_status, prove_status};
+ghost use Rattle.pim_top.specs.Statuses.{aiger_status, asm_status, blif_status, compiler_status, debug_status, file_status, judgement_status, net_status, netlist_status, prove_status};
 ghost use Rattle.pim_top.specs.declared.judgement.Judgement.TheVariants as judgements;
 
 use crate::Status;
@@ -9,6 +9,7 @@ use crate::vector::VectorText;
 use pim_aiger::AigerFault;
 use pim_asm::AsmFault;
 use pim_blif::BlifFault;
+use pim_debug::DebugFault;
 use pim_file::FileFault;
 use pim_io::NoMemory;
 use pim_net::NetFault;
@@ -31,7 +32,9 @@ pub enum Judgement {
     Unequal { vector: VectorText, output: u32 },
     /// The line of this number, from 1, is no vector of the program's inputs.
     Vector(u32),
-    /// There are more lines of vectors than are read.
+    /// The command in the line of this number, from 1, is refused.
+    Command(u32, DebugFault),
+    /// There are more lines of the input than are read.
     TooManyLines,
     /// Memory ran out, which says nothing of the bytes.
     NoMemory,
@@ -58,6 +61,7 @@ impl Judgement {
             Judgement::Prove(fault) => prove_status(*fault),
             Judgement::Unequal { .. } => Status::Unequal,
             Judgement::Vector(_) => Status::BadInput,
+            Judgement::Command(_, fault) => debug_status(*fault),
             Judgement::TooManyLines => Status::TooLarge,
             Judgement::NoMemory => Status::NoMemory,
         }
@@ -148,5 +152,15 @@ fn prove_status(fault: ProveFault) -> Status
         ProveFault::Ports | ProveFault::NotClean(_) => Status::BadInput,
         ProveFault::Inputs | ProveFault::Nodes => Status::TooLarge,
         ProveFault::NoMemory => Status::NoMemory,
+    }
+}
+
+/// The status of a command's refusal.
+fn debug_status(fault: DebugFault) -> Status
+    ensures { result ≡ debug_status fault }
+{
+    match fault {
+        DebugFault::NoMemory => Status::NoMemory,
+        _ => Status::BadInput,
     }
 }

@@ -2,7 +2,7 @@
 ghost use Rattle.std.specs.Prelude.{◌≡◌, ◌++◌, OnOk, decimal};
 ghost use Rattle.pim_io.specs.Outside.{Wrote};
 ghost use Rattle.pim_top.specs.Calls.{IsNoted};
-ghost use Rattle.pim_top.specs.Notes.{aiger_text, asm_text, bad, blif_line, blif_text, compiler_text, file_text, instruction_text, invalid_text, judgement_text, kind_word, large, net_text, note, origin_word, prove_text, refusal_text, spaced, unequal_text, unset_text};
+ghost use Rattle.pim_top.specs.Notes.{aiger_text, asm_text, bad, blif_line, blif_text, compiler_text, debug_line, debug_text, file_text, instruction_text, invalid_text, judgement_text, kind_word, large, net_text, note, origin_word, prove_text, refusal_text, spaced, unequal_text, unset_text};
 ghost use Rattle.pim_top.specs.Streams.{stream};
 ghost use Rattle.pim_top.specs.inner.Writing.{WroteLine};
 
@@ -14,6 +14,7 @@ use itoa::Buffer;
 use pim_aiger::AigerFault;
 use pim_asm::AsmFault;
 use pim_blif::BlifFault;
+use pim_debug::DebugFault;
 use pim_file::FileFault;
 use pim_io::{Sink, SinkFault, tell_writes, write_all, write_pieces};
 use pim_isa::Invalid;
@@ -58,6 +59,7 @@ fn write_judgement<E: Sink>(notes: &mut E, judgement: &Judgement) -> Result<(), 
         Judgement::Prove(fault) => write_prove(notes, *fault),
         Judgement::Unequal { vector, output } => write_unequal(notes, vector, *output),
         Judgement::Vector(line) => write_bad_number(notes, b"vector line ", *line),
+        Judgement::Command(line, fault) => write_command(notes, *line, *fault),
         Judgement::TooManyLines => write_large(notes, b"rows"),
         Judgement::NoMemory => write_text(notes, b"no memory"),
     }
@@ -132,6 +134,51 @@ fn write_blif_line<E: Sink>(
         digits.format(line).as_bytes(),
         text,
         name,
+        b"\n",
+    ];
+    write_pieces(notes, &pieces)
+}
+
+/// Writes why a command is refused, with its line.
+fn write_command<E: Sink>(notes: &mut E, line: u32, fault: DebugFault) -> Result<(), SinkFault>
+    ensures { WroteLine E.taken E.faults notes.old notes.new (debug_text line fault) result }
+{
+    let mut digits = Buffer::new();
+    match fault {
+        DebugFault::BadCommand => write_debug_line(notes, line, b": bad command", b""),
+        DebugFault::NoSuchBreak(number) => {
+            let number = digits.format(number).as_bytes();
+            write_debug_line(notes, line, b": no such break ", number)
+        }
+        DebugFault::OutOfProgram(at) => {
+            let at = digits.format(at).as_bytes();
+            write_debug_line(notes, line, b": out of program ", at)
+        }
+        DebugFault::NoSuchCell(cell) => {
+            let cell = digits.format(cell).as_bytes();
+            write_debug_line(notes, line, b": no such cell ", cell)
+        }
+        DebugFault::NoMemory => write_text(notes, b"no memory"),
+    }
+}
+
+/// Writes what is wrong with the command in a line.
+fn write_debug_line<E: Sink>(
+    notes: &mut E,
+    line: u32,
+    text: &[u8],
+    number: &[u8],
+) -> Result<(), SinkFault>
+    ensures { WroteLine E.taken E.faults notes.old notes.new (debug_line line text.now number.now) result }
+{
+    let mut digits = Buffer::new();
+    let pieces = [
+        b"pim: ".as_slice(),
+        b"bad input: ",
+        b"debug line ",
+        digits.format(line).as_bytes(),
+        text,
+        number,
         b"\n",
     ];
     write_pieces(notes, &pieces)
