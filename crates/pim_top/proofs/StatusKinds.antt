@@ -17,7 +17,6 @@ use Rattle.pim_net.specs.declared.fault.NetFault.TheVariants as net
 use Rattle.pim_top.specs.Statuses.{aiger_status, asm_status, blif_status, compiler_status, file_status, judgement_status, net_status, netlist_status, prove_status, refusal_status}
 use Rattle.pim_prove.specs.declared.fault.ProveFault.{ProveFault}
 use Rattle.pim_prove.specs.declared.fault.ProveFault.TheVariants as prove
-
 use Rattle.pim_top.specs.Statuses.{aiger_status, asm_status, blif_status, compiler_status, debug_status, file_status, judgement_status, net_status, netlist_status, refusal_status}
 use Rattle.pim_top.specs.declared.judgement.Judgement.{Judgement}
 use Rattle.pim_top.specs.declared.judgement.Judgement.TheVariants as judgement
