@@ -1,5 +1,6 @@
 pub mod Allotting
 mod Examples
+pub mod LowerBound
 pub mod Orderings
 pub mod Peaking
 pub mod Placing
@@ -8,6 +9,11 @@ pub mod ReadLemmas
 pub mod Reaching
 pub mod StableSorts
 pub mod Stacks
+pub mod TreeLaws
+pub mod TreeShapes
+pub mod Fallings
+pub mod Sweeps
+pub mod Unders
 pub mod UsageSteps
 pub mod Visits
 pub mod Walks

@@ -5,6 +5,7 @@ pub mod WalkStates
 pub mod WalkSteps
 pub mod Told
 pub mod ProgramFiles
+pub mod ComparedNets
 pub mod StatusKinds
 pub mod Wholes
 pub mod RowsEnds

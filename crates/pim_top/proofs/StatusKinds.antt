@@ -12,7 +12,9 @@ use Rattle.pim_file.specs.declared.fault.FileFault.{FileFault}
 use Rattle.pim_file.specs.declared.fault.FileFault.TheVariants as file
 use Rattle.pim_net.specs.declared.fault.NetFault.{NetFault}
 use Rattle.pim_net.specs.declared.fault.NetFault.TheVariants as net
-use Rattle.pim_top.specs.Statuses.{aiger_status, asm_status, blif_status, compiler_status, file_status, judgement_status, net_status, netlist_status, refusal_status}
+use Rattle.pim_top.specs.Statuses.{aiger_status, asm_status, blif_status, compiler_status, file_status, judgement_status, net_status, netlist_status, prove_status, refusal_status}
+use Rattle.pim_prove.specs.declared.fault.ProveFault.{ProveFault}
+use Rattle.pim_prove.specs.declared.fault.ProveFault.TheVariants as prove
 use Rattle.pim_top.specs.declared.judgement.Judgement.{Judgement}
 use Rattle.pim_top.specs.declared.judgement.Judgement.TheVariants as judgement
 use Rattle.pim_top.specs.declared.netlist.NetlistFault.{NetlistFault}
@@ -32,6 +34,7 @@ IsOfBytes status.WriteFault = ⊥
 IsOfBytes status.NoMemory = Unit {0}
 IsOfBytes status.TooFewCells = Unit {0}
 IsOfBytes status.TooLarge = Unit {0}
+IsOfBytes status.Unequal = Unit {0}
 
 net-kind : (f : NetFault) → IsOfBytes (net_status f)
 net-kind net.NoMemory = tt
@@ -63,11 +66,20 @@ asm-kind : (f : AsmFault) → IsOfBytes (asm_status f)
 asm-kind asm.NoMemory = tt
 asm-kind f = tt
 
+prove-kind : (f : ProveFault) → IsOfBytes (prove_status f)
+prove-kind prove.Ports = tt
+prove-kind prove.Inputs = tt
+prove-kind prove.Nodes = tt
+prove-kind (prove.NotClean unset) = tt
+prove-kind prove.NoMemory = tt
+
 pub judgement-kind : (j : Judgement) → IsOfBytes (judgement_status j)
 judgement-kind (judgement.Netlist f) = netlist-kind f
 judgement-kind (judgement.Compile r) = compiler-kind r
 judgement-kind (judgement.File f) = file-kind f
 judgement-kind (judgement.Assembly f) = asm-kind f
+judgement-kind (judgement.Prove f) = prove-kind f
+judgement-kind (judgement.Unequal vector output) = tt
 judgement-kind (judgement.Vector n) = tt
 judgement-kind judgement.TooManyLines = tt
 judgement-kind judgement.NoMemory = tt

@@ -16,6 +16,10 @@ use Rattle.pim_net.specs.declared.fault.NetFault.{NetFault}
 use Rattle.pim_net.specs.declared.fault.NetFault.TheVariants as net
 use Rattle.pim_net.specs.declared.kind.Kind.{Kind}
 use Rattle.pim_net.specs.declared.kind.Kind.TheVariants as kind
+use Rattle.pim_prove.specs.declared.fault.ProveFault.{ProveFault}
+use Rattle.pim_prove.specs.declared.fault.ProveFault.TheVariants as prove
+use Rattle.pim_prove.specs.declared.unset.Unset.{Unset}
+use Rattle.pim_prove.specs.declared.unset.Unset.TheVariants as unset
 use Rattle.pim_top.specs.declared.judgement.Judgement.{Judgement}
 use Rattle.pim_top.specs.declared.judgement.Judgement.TheVariants as judgement
 use Rattle.pim_top.specs.declared.netlist.NetlistFault.{NetlistFault}
@@ -122,12 +126,31 @@ asm_text (asm.Name n) = bad (codes "assembly name in line " ++ decimal n)
 asm_text (asm.Invalid fault) = invalid_text fault
 asm_text asm.NoMemory = wanting
 
+-- which cell a program uses unset
+abbrev pub unset_text : Unset → List ℕ
+unset_text (unset.Used k cell) = instruction_text k (codes " uses unset cell " ++ decimal cell)
+unset_text (unset.Output k) = bad (codes "program output " ++ (decimal k ++ codes " is unset"))
+
+-- why a program is not compared with a netlist
+abbrev pub prove_text : ProveFault → List ℕ
+prove_text prove.Ports = bad (codes "ports differ")
+prove_text prove.Inputs = large (codes "inputs")
+prove_text prove.Nodes = large (codes "nodes")
+prove_text (prove.NotClean unset) = unset_text unset
+prove_text prove.NoMemory = wanting
+
+-- at which vector and output a program differs from a netlist
+abbrev pub unequal_text : List ℕ → ℕ → List ℕ
+unequal_text vector output = codes "unequal " ++ (vector ++ (codes " output " ++ decimal output))
+
 -- why bytes are refused
 abbrev pub judgement_text : Judgement → List ℕ
 judgement_text (judgement.Netlist fault) = netlist_text fault
 judgement_text (judgement.Compile refusal) = compiler_text refusal
 judgement_text (judgement.File fault) = file_text fault
 judgement_text (judgement.Assembly fault) = asm_text fault
+judgement_text (judgement.Prove fault) = prove_text fault
+judgement_text (judgement.Unequal vector output) = unequal_text vector output
 judgement_text (judgement.Vector n) = bad (codes "vector line " ++ decimal n)
 judgement_text judgement.TooManyLines = large (codes "rows")
 judgement_text judgement.NoMemory = wanting

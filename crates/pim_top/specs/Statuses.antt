@@ -12,6 +12,8 @@ use Rattle.pim_file.specs.declared.fault.FileFault.{FileFault}
 use Rattle.pim_file.specs.declared.fault.FileFault.TheVariants as file
 use Rattle.pim_net.specs.declared.fault.NetFault.{NetFault}
 use Rattle.pim_net.specs.declared.fault.NetFault.TheVariants as net
+use Rattle.pim_prove.specs.declared.fault.ProveFault.{ProveFault}
+use Rattle.pim_prove.specs.declared.fault.ProveFault.TheVariants as prove
 use Rattle.pim_top.specs.declared.judgement.Judgement.{Judgement}
 use Rattle.pim_top.specs.declared.judgement.Judgement.TheVariants as judgement
 use Rattle.pim_top.specs.declared.netlist.NetlistFault.{NetlistFault}
@@ -21,7 +23,7 @@ use Rattle.pim_top.specs.declared.refusal.Refusal.TheVariants as refusal
 use Rattle.pim_top.specs.declared.status.Status.{Status}
 use Rattle.pim_top.specs.declared.status.Status.TheVariants as status
 
--- the exit status: 0 where all was done, and else 1 to 7
+-- the exit status: 0 where all was done, and else 1 to 8
 abbrev pub code_of : Status → ℕ
 code_of status.Done = 0
 code_of status.BadInput = 1
@@ -31,6 +33,7 @@ code_of status.WriteFault = 4
 code_of status.NoMemory = 5
 code_of status.TooFewCells = 6
 code_of status.TooLarge = 7
+code_of status.Unequal = 8
 
 -- a netlist that is not well-formed is a bad input
 abbrev pub net_status : NetFault → Status
@@ -73,12 +76,22 @@ abbrev pub asm_status : AsmFault → Status
 asm_status asm.NoMemory = status.NoMemory
 asm_status fault = status.BadInput
 
+-- what isn't compared with a netlist is a bad input, or too large
+abbrev pub prove_status : ProveFault → Status
+prove_status prove.Ports = status.BadInput
+prove_status prove.Inputs = status.TooLarge
+prove_status prove.Nodes = status.TooLarge
+prove_status (prove.NotClean unset) = status.BadInput
+prove_status prove.NoMemory = status.NoMemory
+
 -- the status of a judgement
 abbrev pub judgement_status : Judgement → Status
 judgement_status (judgement.Netlist fault) = netlist_status fault
 judgement_status (judgement.Compile refusal) = compiler_status refusal
 judgement_status (judgement.File fault) = file_status fault
 judgement_status (judgement.Assembly fault) = asm_status fault
+judgement_status (judgement.Prove fault) = prove_status fault
+judgement_status (judgement.Unequal vector output) = status.Unequal
 judgement_status (judgement.Vector n) = status.BadInput
 judgement_status judgement.TooManyLines = status.TooLarge
 judgement_status judgement.NoMemory = status.NoMemory

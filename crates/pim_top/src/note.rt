@@ -2,13 +2,14 @@
 ghost use Rattle.std.specs.Prelude.{◌≡◌, ◌++◌, OnOk, decimal};
 ghost use Rattle.pim_io.specs.Outside.{Wrote};
 ghost use Rattle.pim_top.specs.Calls.{IsNoted};
-ghost use Rattle.pim_top.specs.Notes.{aiger_text, asm_text, bad, blif_line, blif_text, compiler_text, file_text, instruction_text, invalid_text, judgement_text, kind_word, large, net_text, note, origin_word, refusal_text, spaced};
+ghost use Rattle.pim_top.specs.Notes.{aiger_text, asm_text, bad, blif_line, blif_text, compiler_text, file_text, instruction_text, invalid_text, judgement_text, kind_word, large, net_text, note, origin_word, prove_text, refusal_text, spaced, unequal_text, unset_text};
 ghost use Rattle.pim_top.specs.Streams.{stream};
 ghost use Rattle.pim_top.specs.inner.Writing.{WroteLine};
 
 use crate::judgement::Judgement;
 use crate::netlist::NetlistFault;
 use crate::refusal::{Origin, Refusal};
+use crate::vector::VectorText;
 use itoa::Buffer;
 use pim_aiger::AigerFault;
 use pim_asm::AsmFault;
@@ -16,6 +17,7 @@ use pim_blif::BlifFault;
 use pim_file::FileFault;
 use pim_io::{Sink, SinkFault, tell_writes, write_all, write_pieces};
 use pim_isa::Invalid;
+use pim_prove::{ProveFault, Unset};
 use pim_net::{Kind, Names, NetFault};
 
 /// Writes the note of an answer, as far as the sink takes it: none where all was done.
@@ -53,6 +55,8 @@ fn write_judgement<E: Sink>(notes: &mut E, judgement: &Judgement) -> Result<(), 
         Judgement::Compile(refusal) => write_compiler(notes, *refusal),
         Judgement::File(fault) => write_file(notes, *fault),
         Judgement::Assembly(fault) => write_assembly(notes, *fault),
+        Judgement::Prove(fault) => write_prove(notes, *fault),
+        Judgement::Unequal { vector, output } => write_unequal(notes, vector, *output),
         Judgement::Vector(line) => write_bad_number(notes, b"vector line ", *line),
         Judgement::TooManyLines => write_large(notes, b"rows"),
         Judgement::NoMemory => write_text(notes, b"no memory"),
@@ -169,6 +173,68 @@ fn write_assembly<E: Sink>(notes: &mut E, fault: AsmFault) -> Result<(), SinkFau
         AsmFault::Invalid(fault) => write_invalid(notes, fault),
         AsmFault::NoMemory => write_text(notes, b"no memory"),
     }
+}
+
+/// Writes why a program is not compared with a netlist.
+fn write_prove<E: Sink>(notes: &mut E, fault: ProveFault) -> Result<(), SinkFault>
+    ensures { WroteLine E.taken E.faults notes.old notes.new (prove_text fault) result }
+{
+    match fault {
+        ProveFault::Ports => write_bad(notes, b"ports differ"),
+        ProveFault::Inputs => write_large(notes, b"inputs"),
+        ProveFault::Nodes => write_large(notes, b"nodes"),
+        ProveFault::NotClean(unset) => write_unset(notes, unset),
+        ProveFault::NoMemory => write_text(notes, b"no memory"),
+    }
+}
+
+/// Writes which cell a program uses unset.
+fn write_unset<E: Sink>(notes: &mut E, unset: Unset) -> Result<(), SinkFault>
+    ensures { WroteLine E.taken E.faults notes.old notes.new (unset_text unset) result }
+{
+    let mut digits = Buffer::new();
+    let mut number = Buffer::new();
+    match unset {
+        Unset::Used { instr, cell } => {
+            let pieces = [
+                b"pim: ".as_slice(),
+                b"bad input: ",
+                b"program instruction ",
+                number.format(instr).as_bytes(),
+                b" uses unset cell ",
+                digits.format(cell).as_bytes(),
+                b"\n",
+            ];
+            write_pieces(notes, &pieces)
+        }
+        Unset::Output(output) => {
+            let pieces = [
+                b"pim: ".as_slice(),
+                b"bad input: ",
+                b"program output ",
+                digits.format(output).as_bytes(),
+                b" is unset",
+                b"\n",
+            ];
+            write_pieces(notes, &pieces)
+        }
+    }
+}
+
+/// Writes at which vector and output a program differs from a netlist.
+fn write_unequal<E: Sink>(notes: &mut E, vector: &VectorText, output: u32) -> Result<(), SinkFault>
+    ensures { WroteLine E.taken E.faults notes.old notes.new (unequal_text vector.now output) result }
+{
+    let mut digits = Buffer::new();
+    let pieces = [
+        b"pim: ".as_slice(),
+        b"unequal ",
+        vector.bytes(),
+        b" output ",
+        digits.format(output).as_bytes(),
+        b"\n",
+    ];
+    write_pieces(notes, &pieces)
 }
 
 /// Writes why a program is not valid, with the instruction or the port.
