@@ -1,4 +1,4 @@
-use Rattle.std.proofs.Common.{◌≡◌, List, ℕ, [], Option, ap, sym, ◌∙◌}
+use Rattle.std.proofs.Common.{List, ℕ, [], Option, ap, sym, ◌∙◌}
 use Rattle.pim_isa.specs.Touches.{operands}
 use Rattle.pim_life.specs.NorGraphs.{gate_in, gates_in}
 use Rattle.pim_life.proofs.Drawings.{gates_within, holds_emptied}
