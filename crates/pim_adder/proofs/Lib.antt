@@ -1,2 +1,3 @@
+mod Examples
 pub mod Growing
 pub mod Written
