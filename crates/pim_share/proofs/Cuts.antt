@@ -1,10 +1,10 @@
 -- Where a file is cut, and how long the pieces that are programs are.
-use Rattle.std.proofs.Common.{◌≡◌, ◌∙◌, ◌+◌, ◌*◌, ◌-◌, ◌<◌, ◌≤◌, ◌++◌, ◌∷◌, ◌&&◌, ℕ, Bool, List, [], length, drop, refl, sym, ap, subst, false, true, arith, codes}
+use Rattle.std.proofs.Common.{◌≡◌, ◌∙◌, ◌+◌, ◌*◌, ◌-◌, ◌≤◌, ◌++◌, ◌∷◌, ◌&&◌, ℕ, Bool, List, [], length, drop, refl, sym, ap, subst, false, true, arith, codes}
 use Rattle.std.specs.Prelude.{Err, Ok, Result, if◌then◌else◌, decimal, slice_range}
 use Rattle.std.proofs.lemmas.List.{length-append, length-drop}
 use Rattle.std.proofs.lemmas.List.Sums.{sum_by-append, sum_by-cons}
 use Rattle.std.specs.Str.{bytes_eq}
-use Rattle.pim_io.specs.Lines.{LineView, ScanView, after_line, is_newline, last_line, lines_after, lines_left}
+use Rattle.pim_io.specs.Lines.{LineView, ScanView, after_line, is_newline, lines_after, lines_left}
 use Rattle.pim_io.specs.Readings.{◌>>=◌}
 use Rattle.pim_isa.specs.declared.port.Port.{Port}
 use Rattle.pim_isa.specs.declared.target.Target.{Target}

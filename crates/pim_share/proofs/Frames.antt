@@ -1,9 +1,8 @@
 -- What the turns of parts that keep to windows of their own do: in each window what the part alone does, and nothing outside.
-use Rattle.std.proofs.Common.{◌≡◌, ◌≢◌, ◌∙◌, ◌⊎◌, ◌+◌, ◌<◌, ◌≤◌, ◌==◌, ◌++◌, ◌∷◌, ℕ, Bool, List, [], length, drop, get_or, set, cond, refl, sym, ap, ap₂, subst, false, true, inl, inr, arith, Some, None}
+use Rattle.std.proofs.Common.{◌≡◌, ◌≢◌, ◌∙◌, ◌⊎◌, ◌+◌, ◌<◌, ◌≤◌, ◌==◌, ◌++◌, ◌∷◌, ℕ, Bool, List, [], length, drop, get_or, cond, refl, sym, ap, ap₂, subst, inl, inr, arith, Some, None}
 use Rattle.std.specs.Prelude.{if◌then◌else◌, is_some, option_map, slice_get, count_by, IsTrue}
 use Rattle.std.specs.List.{All}
 use Rattle.std.specs.Option.{option_to_list}
-use Rattle.std.proofs.Math.Dec.{eqb}
 use Rattle.std.proofs.lemmas.Bool.{cases_lt}
 use Rattle.std.proofs.lemmas.Bool.Decides.{eqb_tells}
 use Rattle.std.proofs.lemmas.List.{get_or-set_other, get_or-set_same, get_or_past, length-set}

@@ -1,6 +1,6 @@
 -- The windows of the parts, one behind another, and the ports and instructions in them.
-use Rattle.std.proofs.Common.{◌≡◌, ◌≢◌, ◌∙◌, ◌⊎◌, ◌+◌, ◌<◌, ◌≤◌, ◌^◌, ◌++◌, ◌∷◌, ℕ, zero, suc, List, [], length, drop, get_or, map, take, refl, sym, ap, ap₂, subst, inl, inr, arith, add_assoc}
-use Rattle.std.specs.List.{All, AllPairs, sum_by}
+use Rattle.std.proofs.Common.{◌≡◌, ◌≢◌, ◌∙◌, ◌⊎◌, ◌+◌, ◌<◌, ◌≤◌, ◌^◌, ◌++◌, ◌∷◌, ℕ, zero, suc, List, [], length, drop, get_or, take, refl, sym, ap, subst, inl, inr, arith}
+use Rattle.std.specs.List.{All, AllPairs}
 use Rattle.std.proofs.lemmas.Bool.{cases_lt}
 use Rattle.std.proofs.lemmas.List.{drop_more, map-append, length-map, length-append}
 use Rattle.std.proofs.lemmas.List.Elements.{All-append, All-cons, All-head, All-nil, All-tail, All-weaker}
@@ -10,11 +10,11 @@ use Rattle.pim_isa.specs.declared.port.Port.{Port}
 use Rattle.pim_isa.specs.declared.target.Target.{Target}
 use Rattle.pim_isa.specs.declared.target.Target.TheVariants.{Magic}
 use Rattle.pim_isa.specs.Programs.{ProgramView}
-use Rattle.pim_isa.specs.Sound.{IsProgram, IsSound, IsValid, cells_of}
+use Rattle.pim_isa.specs.Sound.{IsSound, IsValid, cells_of}
 use Rattle.pim_share.specs.Merged.{inputs_from, merged, outputs_from, target_of}
 use Rattle.pim_share.specs.Moved.{moved_port, moved_ports}
 use Rattle.pim_share.specs.Pieces.{ports_in_all}
-use Rattle.pim_share.specs.Turns.{Left, laid, spent}
+use Rattle.pim_share.specs.Turns.{Left, laid}
 use Rattle.pim_share.specs.Windows.{base, needed}
 use Rattle.pim_share.proofs.Frames.{Fits, at}
 

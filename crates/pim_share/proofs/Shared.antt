@@ -1,9 +1,8 @@
 -- The program of the parts: which it is, that it is one, and what executing it leaves.
-use Rattle.std.proofs.Common.{◌≡◌, ◌⊎◌, ◌∙◌, ◌+◌, ◌<◌, ◌≤◌, ◌==◌, ◌∷◌, ℕ, zero, suc, Bool, List, [], length, get_or, map, take, cond, refl, sym, ap, ap₂, subst, false, true, inl, inr, arith, Some, None}
-use Rattle.std.specs.Prelude.{Err, Ok, Option, Result, if◌then◌else◌, is_some, nat_lt, not, option_map, slice_get, IsTrue}
+use Rattle.std.proofs.Common.{◌≡◌, ◌⊎◌, ◌∙◌, ◌+◌, ◌<◌, ◌≤◌, ◌∷◌, ℕ, zero, suc, Bool, List, [], length, get_or, map, take, cond, refl, sym, ap, ap₂, subst, false, true, inl, inr, arith, Some, None}
+use Rattle.std.specs.Prelude.{Err, Option, if◌then◌else◌, is_some, nat_lt, not, option_map, slice_get, IsTrue}
 use Rattle.std.specs.List.{All, position, prefix_len}
 use Rattle.std.specs.Option.{option_or}
-use Rattle.std.proofs.lemmas.Bool.{cases_lt}
 use Rattle.std.proofs.lemmas.Bool.Decides.{leb_tells}
 use Rattle.std.proofs.lemmas.List.{get_or_default}
 use Rattle.std.proofs.lemmas.List.Elements.{All-head, All-tail}
@@ -15,11 +14,11 @@ use Rattle.pim_isa.specs.declared.target.Target.{Target}
 use Rattle.pim_isa.specs.declared.target.Target.TheVariants.{Magic, Plim}
 use Rattle.pim_isa.specs.Primed.{FindsPrimed, IsPrimed, IsPrimedFrom, last_write_is_init, primed_after}
 use Rattle.pim_isa.specs.Programs.{ProgramView}
-use Rattle.pim_isa.specs.Sound.{IsProgram, IsSound, IsValid, cells_of}
+use Rattle.pim_isa.specs.Sound.{IsProgram, IsSound, cells_of}
 use Rattle.pim_isa.specs.Steps.{bit, exec, step}
-use Rattle.pim_share.specs.Merged.{differ, merge_of, merged, ok_unless, other_target, share_fault, target_of, turns_fault}
-use Rattle.pim_share.specs.Sharing.{IsShared, KeepsPrimed}
-use Rattle.pim_share.specs.Turns.{IsFair, Left, after_turns, bad_turn, interleave, is_left, laid, missing, spent}
+use Rattle.pim_share.specs.Merged.{differ, merge_of, merged, ok_unless, other_target, target_of, turns_fault}
+use Rattle.pim_share.specs.Sharing.{IsShared}
+use Rattle.pim_share.specs.Turns.{IsFair, Left, after_turns, bad_turn, is_left, laid, missing, spent}
 use Rattle.pim_share.specs.Windows.{InWindow, base, needed}
 use Rattle.pim_share.specs.declared.fault.ShareFault.{ShareFault}
 use Rattle.pim_share.specs.declared.fault.ShareFault.TheVariants as faults

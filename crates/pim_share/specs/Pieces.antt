@@ -1,5 +1,5 @@
 -- The programs that stand one after another in a file.
-use Rattle.std.specs.Prelude.{ℕ, ◌+◌, ◌*◌, ◌<◌, ◌≤◌, ◌^◌, Bool, ◌&&◌, ◌||◌, ◌==◌, nat_lt, if◌then◌else◌, List, [], ◌∷◌, ◌++◌, codes, drop, length, slice_range, sum_by, Result, Ok, Err}
+use Rattle.std.specs.Prelude.{ℕ, ◌+◌, ◌<◌, ◌≤◌, ◌^◌, Bool, ◌&&◌, ◌||◌, ◌==◌, nat_lt, if◌then◌else◌, List, [], ◌∷◌, ◌++◌, codes, drop, length, slice_range, sum_by, Result, Ok, Err}
 use Rattle.std.specs.Str.{bytes_eq}
 use Rattle.pim_io.specs.Lines.{LineView, lines}
 use Rattle.pim_io.specs.Readings.{◌>>=◌}

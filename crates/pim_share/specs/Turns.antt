@@ -1,5 +1,5 @@
 -- Turns: each number names the part whose next instruction is executed.
-use Rattle.std.specs.Prelude.{◌≡◌, ℕ, ◌+◌, ◌<◌, ◌==◌, Bool, if◌then◌else◌, is_some, not, List, [], ◌∷◌, ◌++◌, All, count_by, drop, length, option_map, Option, Some, None, slice_get, slice_index_or, slice_set}
+use Rattle.std.specs.Prelude.{◌≡◌, ℕ, ◌+◌, ◌<◌, ◌==◌, Bool, if◌then◌else◌, is_some, List, [], ◌∷◌, ◌++◌, All, count_by, drop, length, option_map, Option, Some, None, slice_get, slice_index_or, slice_set}
 use Rattle.std.specs.List.{position}
 use Rattle.std.specs.Option.{option_to_list}
 use Rattle.pim_isa.specs.declared.instr.Instr.{Instr}

@@ -1,4 +1,4 @@
-use Rattle.std.proofs.Common.{◌≡◌, ◌∙◌, ◌+◌, ◌<◌, ◌≤◌, ℕ, rules, length, ap, false, subst, sym, inl, inr, arith, Some, None}
+use Rattle.std.proofs.Common.{◌≡◌, ◌∙◌, ◌+◌, ◌<◌, ◌≤◌, ℕ, rules, length, false, subst, sym, inl, inr, arith, Some, None}
 use Rattle.std.specs.Prelude.{Err, Ok}
 use Rattle.pim_isa.specs.Programs.{ProgramView}
 use Rattle.pim_isa.specs.Primed.{IsPrimedFrom}

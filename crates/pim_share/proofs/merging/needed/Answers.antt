@@ -1,7 +1,6 @@
-use Rattle.std.proofs.Common.{◌≡◌, ◌+◌, ◌<◌, ℕ, drop, subst, sym, inl, inr, arith, slice_index_or}
+use Rattle.std.proofs.Common.{◌≡◌, ℕ, subst, inl, inr, arith, slice_index_or}
 use Rattle.std.proofs.lemmas.Bool.{cases_lt}
 use Rattle.std.proofs.lemmas.List.Elements.{at_read}
-use Rattle.pim_isa.specs.Programs.{ProgramView}
 use Rattle.pim_isa.specs.Sound.{IsProgram}
 use Rattle.pim_share.proofs.Laying.{needed_step}
 use Rattle.pim_share.proofs.merging.needed.Goals as goal

@@ -1,7 +1,7 @@
-use Rattle.std.proofs.Common.{◌≡◌, ◌∙◌, [], ◌+◌, ◌≤◌, rules, false, true, length, ap, subst, sym, inl, inr, arith}
-use Rattle.std.specs.Prelude.{Err, Ok, slice_range}
+use Rattle.std.proofs.Common.{◌≡◌, ◌∙◌, [], rules, false, true, length, ap, sym, inl, inr, arith}
+use Rattle.std.specs.Prelude.{Err, slice_range}
 use Rattle.pim_io.specs.Lines.{line_view, lines_left}
-use Rattle.pim_share.specs.Pieces.{behind, is_end, parts_of, with_part}
+use Rattle.pim_share.specs.Pieces.{behind, is_end, with_part}
 use Rattle.pim_share.proofs.Cuts.{ahead, at_end, cut_err, cut_ok, end_is, no_cut}
 use Rattle.pim_share.proofs.pieces.parse_many.Goals as goal
 
