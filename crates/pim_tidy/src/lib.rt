@@ -1,0 +1,9 @@
+//! The tidied form of an and-inverter graph: constants are folded, and nodes that read the same two literals are one.
+#![tactic(auto)]
+
+mod pair;
+mod tidying;
+#[cfg(test)]
+mod tests;
+
+pub use tidying::tidy;
