@@ -1,14 +1,14 @@
-ghost use Rattle.std.specs.Prelude.{◌≡◌, ◌+◌, ◌*◌, ◌^◌, ◌<◌, ◌≤◌, [], All, Bool, List, length, map, IfOk, OnOk};
+ghost use Rattle.std.specs.Prelude.{◌≡◌, ◌+◌, ◌*◌, ◌^◌, ◌<◌, ◌≤◌, ◌∷◌, ◌++◌, [], None, All, Bool, List, length, map, IfOk, OnOk};
 ghost use Rattle.pim_aig.specs.Graph.{IsOfFirst, nodes};
 ghost use Rattle.pim_aig.specs.Values.{aval};
 ghost use Rattle.pim_aig.specs.declared.graph.TheConstants.{MAX_ANDS};
-ghost use Rattle.pim_tidy.specs.Tidied.{begun, folded, joined, moved, tidied, tidying};
+ghost use Rattle.pim_tidy.specs.Tidied.{begun, folded, joined, joined_by, moved, place_of, tidied, tidying};
 ghost use Rattle.pim_tidy.specs.Tidy.{IsTidy};
 ghost use Rattle.pim_tidy.specs.inner.Pairs.{pair_of};
 
 use crate::pair::Pair;
 use indexmap::IndexSet;
-use pim_aig::{Aig, Lit};
+use pim_aig::{Aig, And, Lit};
 use pim_io::NoMemory;
 use std::alloc::Global;
 
@@ -90,15 +90,58 @@ fn join(
     ensures no_fewer { OnOk result (length tidy.old.ands ≤ length tidy.new.ands) }
     ensures one_more { OnOk result (length tidy.new.ands ≤ length tidy.old.ands + 1) }
 {
-    if let Some(literal) = folded(x, y) {
+    match folded(x, y) {
+        Some(literal) => Ok(literal),
+        None => share(tidy, pairs, x, y),
+    }
+}
+
+/// The AND of two literals that does not fold: the literal of the node that reads the same, or of a new one.
+fn share(
+    tidy: &mut Aig,
+    pairs: &mut IndexSet<Pair>,
+    x: Lit,
+    y: Lit,
+) -> Result<Lit, NoMemory>
+    requires keys { pairs.old.keys ≡ map pair_of tidy.old.ands }
+    requires x_there { IsOfFirst (nodes tidy.old) x }
+    requires y_there { IsOfFirst (nodes tidy.old) y }
+    requires room { length tidy.old.ands < MAX_ANDS }
+    ensures literal { IfOk result (λ l. l ≡ (joined_by None tidy.old.inputs tidy.old.ands (record { x = x; y = y })).lit) }
+    ensures nodes { OnOk result (tidy.new ≡ record tidy.old {
+      ands = (joined_by None tidy.old.inputs tidy.old.ands (record { x = x; y = y })).ands;
+    }) }
+    ensures keys { OnOk result (pairs.new.keys ≡ map pair_of tidy.new.ands) }
+    ensures there { IfOk result (IsOfFirst (nodes tidy.new)) }
+    ensures no_fewer { OnOk result (length tidy.old.ands ≤ length tidy.new.ands) }
+    ensures one_more { OnOk result (length tidy.new.ands ≤ length tidy.old.ands + 1) }
+{
+    let place = enter(tidy.ands(), pairs, x, y)?;
+    let literal = Lit::plain(1 + tidy.inputs() + place);
+    if place as usize == tidy.ands().len() {
+        tidy.and(x, y)?;
         return Ok(literal);
     }
-    let count = tidy.ands().len();
+    Ok(literal)
+}
+
+/// The place of the node that reads two literals, which is entered at the end of the table if there is none.
+fn enter(
+    ands: &[And],
+    pairs: &mut IndexSet<Pair>,
+    x: Lit,
+    y: Lit,
+) -> Result<u32, NoMemory>
+    requires keys { pairs.old.keys ≡ map pair_of ands.now }
+    requires few { length ands.now ≤ MAX_ANDS }
+    ensures place { IfOk result (λ place. place ≡ place_of ands.now (record { x = x; y = y })) }
+    ensures within { IfOk result (λ place. place ≤ length ands.now) }
+    ensures found { IfOk result (λ place. place < length ands.now → pairs.new.keys ≡ map pair_of ands.now) }
+    ensures new { IfOk result (λ place. place ≡ length ands.now
+        → pairs.new.keys ≡ map pair_of (ands.now ++ record { x = x; y = y } ∷ [])) }
+{
     let (place, _) = pairs.insert_full(pair_of(x, y))?;
-    if place == count {
-        return tidy.and(x, y);
-    }
-    Ok(Lit::plain(1 + tidy.inputs() + place as u32))
+    Ok(place as u32)
 }
 
 /// Goes through the nodes of a graph, adds what is new of them to the tidy one, and gives each node's literal there.
@@ -124,7 +167,9 @@ fn add_nodes(alloc: Global, tidy: &mut Aig, aig: &Aig) -> Result<Vec<Lit>, NoMem
 /// The plain literals of the constant and the inputs.
 fn begun(alloc: Global, inputs: u32) -> Result<Vec<Lit>, NoMemory>
     requires { inputs < 2 ^ 30 }
-    ensures { IfOk result (λ lits. lits.items ≡ (begun inputs).lits) }
+    ensures literals { IfOk result (λ lits. lits.items ≡ (begun inputs).lits) }
+    ensures there { IfOk result (λ lits. All (IsOfFirst (1 + inputs)) lits.items) }
+    ensures count { IfOk result (λ lits. length lits.items ≡ 1 + inputs) }
 {
     let mut lits = Vec::new(alloc);
     for node in 0..1 + inputs {
