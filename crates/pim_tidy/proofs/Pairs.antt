@@ -1,5 +1,5 @@
 -- The key of a node tells what it reads, in either order.
-use Rattle.std.proofs.Common.{◌≡◌, ◌≢◌, ◌⊎◌, ℕ, zero, suc, ◌+◌, ◌<◌, ◌≤◌, min, max, Bool, true, false, cond, eqb, not, ◌&&◌, ◌||◌, List, [], ◌∷◌, ◌++◌, length, map, refl, sym, ◌∙◌, ap, subst, arith, inl, inr}
+use Rattle.std.proofs.Common.{◌≡◌, ◌⊎◌, ℕ, suc, ◌+◌, ◌<◌, min, max, Bool, true, false, cond, eqb, not, ◌&&◌, ◌||◌, List, [], ◌∷◌, ◌++◌, length, map, refl, sym, ◌∙◌, ap, arith, inl, inr}
 use Rattle.std.specs.List.{list_any, position_or_len}
 use Rattle.std.proofs.lemmas.Bool.{false≢true}
 use Rattle.std.proofs.lemmas.Bool.Decides.{nat_tests, eqb_tells}
@@ -48,16 +48,16 @@ same_bool false false f g = refl
 pub same_numbers : (p q r s : ℕ) → (eqb (min p q) (min r s) && eqb (max p q) (max r s)) ≡ ((eqb r p && eqb s q) || (eqb r q && eqb s p))
 same_numbers p q r s = same_bool (eqb (min p q) (min r s) && eqb (max p q) (max r s)) ((eqb r p && eqb s q) || (eqb r q && eqb s p))
     (λ h.
-      let b = both (eqb (min p q) (min r s)) (eqb (max p q) (max r s)) h in
-      let low = eqb_is (min p q) (min r s) b.0 in
-      let high = eqb_is (max p q) (max r s) b.1 in
-      elim (eqb_tells r p) [
-        | inl e ↦ let f : s ≡ q = omega (arith, low, high, e.1) in or_first (eqb r p && eqb s q) (eqb r q && eqb s p) (both_yes (eqb r p) (eqb s q) e.0 (eqb_yes s q f))
-        | inr o ↦
-            let f : r ≡ q = omega (arith, low, high, o.1) in
-            let g : s ≡ p = omega (arith, low, high, o.1) in
-            or_second (eqb r p && eqb s q) (eqb r q && eqb s p) (both_yes (eqb r q) (eqb s p) (eqb_yes r q f) (eqb_yes s p g))
-      ])
+    let b = both (eqb (min p q) (min r s)) (eqb (max p q) (max r s)) h in
+    let low = eqb_is (min p q) (min r s) b.0 in
+    let high = eqb_is (max p q) (max r s) b.1 in
+    elim (eqb_tells r p) [
+      | inl e ↦ let f : s ≡ q = omega (arith, low, high, e.1) in or_first (eqb r p && eqb s q) (eqb r q && eqb s p) (both_yes (eqb r p) (eqb s q) e.0 (eqb_yes s q f))
+      | inr o ↦
+          let f : r ≡ q = omega (arith, low, high, o.1) in
+          let g : s ≡ p = omega (arith, low, high, o.1) in
+          or_second (eqb r p && eqb s q) (eqb r q && eqb s p) (both_yes (eqb r q) (eqb s p) (eqb_yes r q f) (eqb_yes s p g))
+    ])
     (λ h. elim (either (eqb r p && eqb s q) (eqb r q && eqb s p) h) [
       | inl a ↦
           let b = both (eqb r p) (eqb s q) a in

@@ -1,9 +1,8 @@
 -- What one node more changes, and what all of them keep.
-use Rattle.std.proofs.Common.{◌≡◌, ◌≢◌, ◌⊎◌, ℕ, zero, suc, ◌+◌, ◌*◌, ◌/◌, ◌%◌, ◌<◌, ◌≤◌, Bool, true, false, cond, eqb, not, ◌&&◌, ◌||◌, List, [], ◌∷◌, ◌++◌, length, get_or, Option, Some, None, refl, sym, ◌∙◌, ap, subst, arith, inl, inr, length-append}
-use Rattle.std.proofs.lemmas.Bool.{false≢true}
-use Rattle.std.proofs.lemmas.Bool.Decides.{nat_tests, eqb_tells}
+use Rattle.std.proofs.Common.{◌≡◌, ◌⊎◌, ℕ, zero, suc, ◌+◌, ◌<◌, ◌≤◌, Bool, true, false, cond, List, [], ◌∷◌, ◌++◌, length, get_or, Option, Some, None, refl, sym, ◌∙◌, ap, subst, arith, inl, inr, length-append}
+use Rattle.std.proofs.lemmas.Bool.Decides.{eqb_tells}
 use Rattle.pim_aig.specs.Graph.{AigView}
-use Rattle.pim_aig.specs.Literals.{complement, plain}
+use Rattle.pim_aig.specs.Literals.{plain}
 use Rattle.pim_aig.specs.declared.graph.And.{And}
 use Rattle.pim_aig.specs.declared.literal.Lit.{Lit}
 use Rattle.pim_tidy.specs.Tidied.{after, folded, joined, joined_by, Joined, moved, moved_and, place_of, same_operands, tidied_from, Tidying}

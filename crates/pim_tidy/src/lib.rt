@@ -2,8 +2,8 @@
 #![tactic(auto)]
 
 mod pair;
-mod tidying;
 #[cfg(test)]
 mod tests;
+mod tidying;
 
 pub use tidying::tidy;

@@ -71,12 +71,7 @@ fn pair_of(x: Lit, y: Lit) -> Pair
 
 /// The AND of two literals, as a literal of the graph: the one that it folds to, that of the node which reads the same, or
 /// that of a new node.
-fn join(
-    tidy: &mut Aig,
-    pairs: &mut IndexSet<Pair>,
-    x: Lit,
-    y: Lit,
-) -> Result<Lit, NoMemory>
+fn join(tidy: &mut Aig, pairs: &mut IndexSet<Pair>, x: Lit, y: Lit) -> Result<Lit, NoMemory>
     requires keys { pairs.old.keys ≡ map pair_of tidy.old.ands }
     requires x_there { IsOfFirst (nodes tidy.old) x }
     requires y_there { IsOfFirst (nodes tidy.old) y }
@@ -97,12 +92,7 @@ fn join(
 }
 
 /// The AND of two literals that does not fold: the literal of the node that reads the same, or of a new one.
-fn share(
-    tidy: &mut Aig,
-    pairs: &mut IndexSet<Pair>,
-    x: Lit,
-    y: Lit,
-) -> Result<Lit, NoMemory>
+fn share(tidy: &mut Aig, pairs: &mut IndexSet<Pair>, x: Lit, y: Lit) -> Result<Lit, NoMemory>
     requires keys { pairs.old.keys ≡ map pair_of tidy.old.ands }
     requires x_there { IsOfFirst (nodes tidy.old) x }
     requires y_there { IsOfFirst (nodes tidy.old) y }
@@ -126,12 +116,7 @@ fn share(
 }
 
 /// The place of the node that reads two literals, which is entered at the end of the table if there is none.
-fn enter(
-    ands: &[And],
-    pairs: &mut IndexSet<Pair>,
-    x: Lit,
-    y: Lit,
-) -> Result<u32, NoMemory>
+fn enter(ands: &[And], pairs: &mut IndexSet<Pair>, x: Lit, y: Lit) -> Result<u32, NoMemory>
     requires keys { pairs.old.keys ≡ map pair_of ands.now }
     requires few { length ands.now ≤ MAX_ANDS }
     ensures place { IfOk result (λ place. place ≡ place_of ands.now (record { x = x; y = y })) }

@@ -1,4 +1,4 @@
-use Rattle.std.proofs.Common.{◌≡◌, ◌++◌, length, map, take}
+use Rattle.std.proofs.Common.{◌≡◌, map, take}
 use Rattle.pim_tidy.specs.Tidied.{moved}
 use Rattle.pim_tidy.proofs.tidying.add_outputs.Given as goal
 

@@ -1,4 +1,4 @@
-use Rattle.pim_tidy.proofs.Pairs.{entered, keys_found, keys_new, key_tests}
+use Rattle.pim_tidy.proofs.Pairs.{entered, keys_found, key_tests}
 use Rattle.pim_tidy.proofs.tidying.enter.Goals as goal
 
 pub returns-clause-place : goal.returns-clause-place

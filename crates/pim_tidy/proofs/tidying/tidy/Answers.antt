@@ -1,4 +1,4 @@
-use Rattle.std.proofs.Common.{◌≡◌, ◌+◌, ◌≤◌, ℕ, List, length, map, refl, sym, ◌∙◌, ap, subst, arith}
+use Rattle.std.proofs.Common.{◌≡◌, List, length, map, refl, sym, ◌∙◌, ap, subst, arith}
 use Rattle.pim_aig.specs.Graph.{AigView}
 use Rattle.pim_aig.specs.declared.graph.And.{And}
 use Rattle.pim_aig.specs.declared.literal.Lit.{Lit}
