@@ -75,7 +75,7 @@ fn assembly_is_judged(rt: HostRuntime) -> Result<(), Fail> {
             b"target magic\ncells 2\ninit\n",
             "program instruction 0 init list",
         ),
-        (b"target magic\ncells 2\ninput 1 \"a\"\n", "program port 0"),
+        (b"target magic\ncells 2\ninput 2 \"a\"\n", "program port 0"),
     ];
     for (input, detail) in cases {
         let text = format!(in alloc; "bad input: {detail}")?;
