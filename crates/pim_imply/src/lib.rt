@@ -3,6 +3,7 @@
 #![tactic(auto)]
 
 mod draft;
+mod emit;
 mod graph;
 mod instr;
 mod invalid;

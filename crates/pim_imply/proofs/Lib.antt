@@ -1,0 +1,4 @@
+pub mod GateReads
+pub mod Literals
+pub mod Rows
+pub mod Walks
