@@ -108,7 +108,7 @@ front_has (x ∷ xs) (suc p) y h = elim (bool_cases (eqb x y)) [
 ]
 
 -- an empty list names nothing that is taken over
-none_some : (p y : ℕ) → taken_at [] p ≡ Some y → ⊥
+pub none_some : (p y : ℕ) → taken_at [] p ≡ Some y → ⊥
 none_some zero y e = cc
 none_some (suc p) y e = cc
 
