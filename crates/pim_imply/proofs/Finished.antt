@@ -1,17 +1,16 @@
 -- A finished program of the schedule: it has no fault, and realizes the graph.
-use Rattle.std.proofs.Common.{◌≡◌, ◌≢◌, ◌⊎◌, ℕ, zero, suc, ◌+◌, ◌-◌, ◌*◌, ◌/◌, ◌%◌, ◌<◌, ◌≤◌, Bool, true, false, cond, eqb, nat_le, nat_lt, ◌||◌, List, [], ◌∷◌, ◌++◌, length, map, fold, flat_map, get_or, take, drop, sum_by, slice_get, All, Option, Some, None, option_map, refl, sym, ◌∙◌, ap, subst, arith, inl, inr}
+use Rattle.std.proofs.Common.{◌≡◌, ◌≢◌, ◌⊎◌, ℕ, zero, suc, ◌+◌, ◌-◌, ◌*◌, ◌/◌, ◌<◌, ◌≤◌, Bool, true, false, cond, eqb, nat_le, ◌||◌, List, [], ◌∷◌, ◌++◌, length, map, fold, flat_map, get_or, take, drop, sum_by, slice_get, All, Option, Some, None, refl, sym, ◌∙◌, ap, subst, arith, inl, inr}
 use Rattle.std.specs.List.{list_any, AllByRecursion}
-use Rattle.std.specs.Option.{option_or}
 use Rattle.std.proofs.lemmas.Bool.{false≢true}
-use Rattle.std.proofs.lemmas.Bool.Decides.{nat_tests, eqb_tells}
-use Rattle.std.proofs.lemmas.List.{length-map, length-append}
+use Rattle.std.proofs.lemmas.Bool.Decides.{nat_tests}
+use Rattle.std.proofs.lemmas.List.{length-map}
 use Rattle.std.proofs.lemmas.List.Elements.{All-append, All-cons, recursion_from_All}
 use Rattle.std.proofs.lemmas.List.Concat.{length-flat_map}
 use Rattle.std.proofs.lemmas.List.Sums.{sum_by-cons}
 use Rattle.std.proofs.lemmas.Option.{slice_get_cases}
 use Rattle.std.proofs.Math.ListN.{drop_of_length-le}
 use Rattle.std.proofs.Math.Seq.{take-length}
-use Rattle.pim_aig.specs.Graph.{AigView, nodes}
+use Rattle.pim_aig.specs.Graph.{AigView}
 use Rattle.pim_aig.specs.Values.{aval}
 use Rattle.pim_aig.specs.declared.literal.Lit.{Lit}
 use Rattle.pim_graph.specs.Allotments.{AllotmentView}
@@ -22,23 +21,20 @@ use Rattle.pim_graph.specs.Peaks.{needed}
 use Rattle.pim_isa.specs.PortLists.{input_ports, labels_of}
 use Rattle.pim_isa.specs.Programs.{PortsView}
 use Rattle.pim_isa.specs.Steps.{bit}
-use Rattle.pim_isa.specs.Validity.{bad_input, bad_output, bad_port}
-use Rattle.pim_isa.specs.Validity as isa
+use Rattle.pim_isa.specs.Validity.{bad_input, bad_output}
 use Rattle.pim_isa.specs.declared.port.Port.{Port}
 use Rattle.pim_imply.specs.declared.instr.ImplyInstr.{ImplyInstr}
 use Rattle.pim_imply.specs.declared.instr.ImplyInstr.TheVariants.{False, Imp}
-use Rattle.pim_imply.specs.declared.invalid.ImplyInvalid.TheVariants as invalid
 use Rattle.pim_imply.specs.Costs.{impcost}
 use Rattle.pim_imply.specs.Gates.{gates, imply_graph, is_input, operands, turned, with_root}
 use Rattle.pim_imply.specs.Machines.{iexec}
-use Rattle.pim_imply.specs.Programs.{body_of}
 use Rattle.pim_imply.specs.Realizes.{IRealizes, written}
-use Rattle.pim_imply.specs.Schedules.{cell_of, gate_instrs, nand_instrs, output_ports, program_of, schedule}
+use Rattle.pim_imply.specs.Schedules.{cell_of, gate_instrs, output_ports, program_of, schedule}
 use Rattle.pim_imply.specs.Validity.{first_instr_fault, fault_of}
 use Rattle.pim_imply.proofs.GateReads.{or_true, operands_few}
 use Rattle.pim_imply.proofs.Literals.{lit, bool_cases, turned_twice, even_value, input_value}
 use Rattle.pim_imply.proofs.Rows.{iexec_length, iexec_other}
-use Rattle.pim_imply.proofs.Walks.{IsSettled, Source, source_of, has_at_place, input_means, all_hold}
+use Rattle.pim_imply.proofs.Walks.{IsSettled, source_of, has_at_place, input_means, all_hold}
 
 -- an instruction writes a cell behind the first, within the program, and reads another one
 abbrev pub Fits : ℕ → ℕ → ImplyInstr → Type 0

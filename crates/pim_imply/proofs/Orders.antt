@@ -1,5 +1,5 @@
 -- The order of the gates.
-use Rattle.std.proofs.Common.{◌≡◌, ℕ, ◌+◌, ◌*◌, ◌<◌, ◌≤◌, List, [], length, All, Option, Some, None, refl, sym, ◌∙◌, ap, subst, arith}
+use Rattle.std.proofs.Common.{◌≡◌, ℕ, ◌*◌, ◌<◌, ◌≤◌, List, [], length, All, Option, None, sym, ap, subst, arith}
 use Rattle.pim_aig.specs.Graph.{AigView, nodes}
 use Rattle.pim_graph.specs.Allotments.{AllotmentView, IsAllotment, IsOver, taken_at}
 use Rattle.pim_graph.specs.Graphs.{GraphView}

@@ -1,25 +1,22 @@
 -- The row after the gates up to a place: each gate that is needed there has its value in its cell.
-use Rattle.std.proofs.Common.{◌≡◌, ◌≢◌, ◌⊎◌, ℕ, zero, suc, ◌+◌, ◌-◌, ◌*◌, ◌/◌, ◌%◌, ◌<◌, ◌≤◌, Bool, true, false, cond, eqb, nat_lt, nat_le, ◌&&◌, ◌||◌, not, List, [], ◌∷◌, ◌++◌, length, map, fold, flat_map, get_or, take, drop, All, Option, Some, None, refl, sym, ◌∙◌, ap, subst, arith, inl, inr}
+use Rattle.std.proofs.Common.{◌≡◌, ◌≢◌, ◌⊎◌, ℕ, zero, suc, ◌+◌, ◌-◌, ◌*◌, ◌/◌, ◌%◌, ◌<◌, ◌≤◌, Bool, true, false, cond, eqb, nat_lt, nat_le, ◌&&◌, ◌||◌, not, List, [], ◌∷◌, ◌++◌, length, map, flat_map, get_or, take, drop, All, Some, refl, sym, ◌∙◌, ap, subst, arith, inl, inr}
 use Rattle.std.specs.List.{list_all, AllByRecursion}
 use Rattle.std.proofs.lemmas.Bool.{false≢true}
 use Rattle.std.proofs.lemmas.Bool.Decides.{nat_tests, eqb_tells}
 use Rattle.std.proofs.lemmas.List.{drop_more, take_more, flat_map_more, get_or-take}
-use Rattle.std.proofs.Math.ListN.{drop_of_length-le}
 use Rattle.std.proofs.Math.Seq.{take-length}
 use Rattle.pim_aig.specs.Graph.{AigView, IsAig, nodes}
 use Rattle.pim_aig.specs.Laws.{ValueLaws}
 use Rattle.pim_aig.specs.Values.{aval}
-use Rattle.pim_aig.specs.declared.literal.Lit.{Lit}
 use Rattle.pim_graph.specs.Allotments.{AllotmentView, IsAllotment, taken_at}
 use Rattle.pim_graph.specs.Graphs.{has, kids_of}
 use Rattle.pim_graph.specs.Orders.{IsReached}
-use Rattle.pim_graph.specs.Orders.IsReached.{as_root}
 use Rattle.pim_graph.specs.Peaks.{IsPlaced, needed, read_by}
 use Rattle.pim_isa.specs.Steps.{bit}
 use Rattle.pim_imply.specs.declared.instr.ImplyInstr.{ImplyInstr}
-use Rattle.pim_imply.specs.Gates.{gates, gates_of, imply_graph, is_input, operands, turned, with_root}
+use Rattle.pim_imply.specs.Gates.{gates, imply_graph, is_input, operands, turned}
 use Rattle.pim_imply.specs.Machines.{iexec}
-use Rattle.pim_imply.specs.Schedules.{cell_of, gate_instrs, nand_instrs, schedule}
+use Rattle.pim_imply.specs.Schedules.{cell_of, gate_instrs, schedule}
 use Rattle.pim_imply.proofs.Literals.{lit, bool_cases, turned_twice, kind_of, gate_value, even_value, input_value}
 use Rattle.pim_imply.proofs.GateReads.{or_true, kids_at, gate_has, reached_takes, turned_below}
 use Rattle.pim_imply.proofs.Rows.{iexec_length, iexec_append, nand_gives, nand_off}

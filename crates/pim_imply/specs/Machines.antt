@@ -1,5 +1,5 @@
 -- The machine: what one instruction does to a row of bits, and what a list of them does.
-use Rattle.std.specs.Prelude.{ℕ, ◌+◌, ◌||◌, Bool, false, not, List, [], ◌∷◌, Option, Some, None, replicate, slice_get, slice_set, take}
+use Rattle.std.specs.Prelude.{ℕ, ◌+◌, ◌||◌, Bool, false, not, List, [], ◌∷◌, Option, Some, None, replicate, slice_get, slice_set}
 use Rattle.pim_isa.specs.Results.{fill_bit, with_inputs}
 use Rattle.pim_isa.specs.Steps.{bit}
 use Rattle.pim_isa.specs.declared.target.Fill.{Fill}

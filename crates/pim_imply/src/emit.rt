@@ -31,7 +31,13 @@ fn cell_of(aig: &Aig, cells: &[u32], literal: u32) -> u32
 }
 
 /// Adds an `imp` onto the cell z for each of the literals.
-fn add_imps(draft: &mut ImplyDraft, aig: &Aig, cells: &[u32], z: u32, literals: &[u32]) -> Result<(), NoMemory>
+fn add_imps(
+    draft: &mut ImplyDraft,
+    aig: &Aig,
+    cells: &[u32],
+    z: u32,
+    literals: &[u32],
+) -> Result<(), NoMemory>
     ensures { OnOk result (draft.new ≡ record draft.old {
       instrs = draft.old.instrs ++ map (λ c. Imp c z) (map (cell_of aig.now cells.now) literals.now);
     }) }
@@ -44,7 +50,13 @@ fn add_imps(draft: &mut ImplyDraft, aig: &Aig, cells: &[u32], z: u32, literals: 
 }
 
 /// Adds the instructions of a gate.
-fn add_gate(alloc: Global, draft: &mut ImplyDraft, aig: &Aig, cells: &[u32], gate: u32) -> Result<(), NoMemory>
+fn add_gate(
+    alloc: Global,
+    draft: &mut ImplyDraft,
+    aig: &Aig,
+    cells: &[u32],
+    gate: u32,
+) -> Result<(), NoMemory>
     requires { gate < 2 * nodes aig.now }
     ensures { OnOk result (draft.new ≡ record draft.old { instrs = draft.old.instrs ++ gate_instrs aig.now cells.now gate }) }
 {
@@ -56,7 +68,13 @@ fn add_gate(alloc: Global, draft: &mut ImplyDraft, aig: &Aig, cells: &[u32], gat
 }
 
 /// Adds the instructions of all gates in their order.
-pub(crate) fn add_gates(alloc: Global, draft: &mut ImplyDraft, aig: &Aig, cells: &[u32], order: &[u32]) -> Result<(), NoMemory>
+pub(crate) fn add_gates(
+    alloc: Global,
+    draft: &mut ImplyDraft,
+    aig: &Aig,
+    cells: &[u32],
+    order: &[u32],
+) -> Result<(), NoMemory>
     requires order { order.now ≡ gates aig.now }
     requires there { All (λ l. l < 2 * nodes aig.now) order.now }
     ensures { OnOk result (draft.new ≡ record draft.old { instrs = draft.old.instrs ++ schedule aig.now cells.now }) }
@@ -81,7 +99,12 @@ pub(crate) fn add_inputs(draft: &mut ImplyDraft, labels: &[Name]) -> Result<(), 
 }
 
 /// Adds the output ports, each in the cell where its output lies.
-pub(crate) fn add_outputs(draft: &mut ImplyDraft, aig: &Aig, cells: &[u32], labels: &[Name]) -> Result<(), NoMemory>
+pub(crate) fn add_outputs(
+    draft: &mut ImplyDraft,
+    aig: &Aig,
+    cells: &[u32],
+    labels: &[Name],
+) -> Result<(), NoMemory>
     requires { length aig.now.outputs ≡ length labels.now }
     ensures { OnOk result (draft.new ≡ record draft.old {
       outputs = draft.old.outputs ++ output_ports aig.now cells.now aig.now.outputs labels.now;

@@ -12,6 +12,8 @@ mod printing;
 mod program;
 mod refusal;
 mod scheduling;
+#[cfg(test)]
+mod tests;
 
 pub use draft::ImplyDraft;
 pub use instr::ImplyInstr;

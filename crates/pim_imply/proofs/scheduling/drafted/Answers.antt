@@ -1,4 +1,4 @@
-use Rattle.std.proofs.Common.{ℕ, List, length, ◌∙◌, ap, arith}
+use Rattle.std.proofs.Common.{ℕ, List, length, ap, arith}
 use Rattle.pim_imply.proofs.scheduling.drafted.Goals as goal
 
 pub add_inputs-requires : goal.add_inputs-requires

@@ -1,4 +1,4 @@
-use Rattle.std.proofs.Common.{◌≡◌, ◌+◌, ◌*◌, ◌<◌, ◌≤◌, length, map, Some, None, sym, ◌∙◌, ap, subst, arith}
+use Rattle.std.proofs.Common.{◌≡◌, length, map, Some, None, sym, ◌∙◌, ap, subst, arith}
 use Rattle.pim_aig.specs.Values.{aval}
 use Rattle.pim_isa.specs.PortLists.{labels_of}
 use Rattle.pim_imply.specs.Programs.{ImplyView}

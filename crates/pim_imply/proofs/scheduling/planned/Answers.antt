@@ -1,4 +1,4 @@
-use Rattle.std.proofs.Common.{◌≡◌, ℕ, List, [], refl, ◌∙◌, ap}
+use Rattle.std.proofs.Common.{◌≡◌, [], refl, ◌∙◌, ap}
 use Rattle.pim_graph.specs.Orders.{order}
 use Rattle.pim_imply.specs.Gates.{gates, imply_graph}
 use Rattle.pim_imply.proofs.Orders.{all_reached, moved, order_few, order_there}
