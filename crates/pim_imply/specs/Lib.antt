@@ -1,0 +1,10 @@
+pub mod inner
+pub mod Programs
+pub mod Validity
+pub mod Machines
+pub mod Realizes
+pub mod Text
+pub mod Gates
+pub mod Schedules
+pub mod Costs
+pub mod Refusals

@@ -1,0 +1,2 @@
+-- Inner: definitions that only private functions and the keeping of a type cite.
+pub mod Bodies

@@ -1,0 +1,71 @@
+ghost use Rattle.std.specs.Prelude.{◌≡◌, ◌<◌, ◌≤◌, [], ◌∷◌, ◌++◌, length, OnOk, OnErr};
+ghost use Rattle.pim_io.specs.Names.{label as label_of};
+
+use crate::instr::ImplyInstr;
+use pim_io::NoMemory;
+use pim_isa::{MAX_CELLS, ProgramDraft, Target};
+use std::alloc::Global;
+use std::marker::Model;
+
+/// A program that is not checked yet: it grows by one port or one instruction at a time.
+#[derive(Debug, Drop)]
+pub struct ImplyDraft {
+    // The cells and the ports, and no instruction.
+    pub(crate) body: ProgramDraft,
+    pub(crate) instrs: Vec<ImplyInstr>,
+}
+
+impl Model for ImplyDraft {
+    ghost use Rattle.pim_imply.specs.Programs.{ImplyView};
+    ghost use Rattle.pim_imply.specs.inner.Bodies.{IsBody, with_body};
+
+    ghost Value = { ImplyView };
+
+    ghost view = { λ d. with_body d.body d.instrs.items };
+
+    ghost invariant = { λ d. IsBody d.body };
+}
+
+impl ImplyDraft {
+    /// A draft with that many cells, without ports and instructions.
+    pub fn new(alloc: Global, cells: u32) -> ImplyDraft
+        requires { cells ≤ MAX_CELLS }
+        ensures { result ≡ record { cells = cells; inputs = []; outputs = []; instrs = [] } }
+    {
+        ImplyDraft {
+            body: ProgramDraft::new(alloc, Target::Plim, cells),
+            instrs: Vec::new(alloc),
+        }
+    }
+
+    /// Appends an input at the cell, with the label of this name. A call that is refused changes nothing.
+    pub fn add_input(&mut self, cell: u32, label: &[u8]) -> Result<(), NoMemory>
+        requires some { 0 < length label.now }
+        requires short { length label.now ≤ 4096 }
+        ensures ok { OnOk result
+            (self.new ≡ record self.old { inputs = self.old.inputs ++ (record { cell = cell; label = label_of label.now }) ∷ [] }) }
+        ensures err { OnErr result (self.new ≡ self.old) }
+    {
+        self.body.add_input(cell, label)
+    }
+
+    /// Appends an output at the cell, with the label of this name. A call that is refused changes nothing.
+    pub fn add_output(&mut self, cell: u32, label: &[u8]) -> Result<(), NoMemory>
+        requires some { 0 < length label.now }
+        requires short { length label.now ≤ 4096 }
+        ensures ok { OnOk result
+            (self.new ≡ record self.old { outputs = self.old.outputs ++ (record { cell = cell; label = label_of label.now }) ∷ [] }) }
+        ensures err { OnErr result (self.new ≡ self.old) }
+    {
+        self.body.add_output(cell, label)
+    }
+
+    /// Appends an instruction. A call that is refused changes nothing.
+    pub fn add(&mut self, instr: ImplyInstr) -> Result<(), NoMemory>
+        ensures ok { OnOk result (self.new ≡ record self.old { instrs = self.old.instrs ++ instr ∷ [] }) }
+        ensures err { OnErr result (self.new ≡ self.old) }
+    {
+        self.instrs.push(instr)?;
+        Ok(())
+    }
+}

@@ -1,0 +1,25 @@
+//! The machine with the two operations of material implication, `false` and `imp`: programs for it, their text, the machine of one
+//! row, and the schedule of an and-inverter graph for it.
+#![tactic(auto)]
+
+mod draft;
+mod emit;
+mod graph;
+mod instr;
+mod invalid;
+mod machine;
+mod printing;
+mod program;
+mod refusal;
+mod scheduling;
+#[cfg(test)]
+mod tests;
+
+pub use draft::ImplyDraft;
+pub use instr::ImplyInstr;
+pub use invalid::ImplyInvalid;
+pub use machine::ImplyMachine;
+pub use printing::print_imply;
+pub use program::ImplyProgram;
+pub use refusal::Refusal;
+pub use scheduling::imply;
