@@ -13,7 +13,8 @@ use Rattle.pim_net.specs.Values.{outs, signed}
 use Rattle.pim_net.specs.WellFormed.{IsNet, IsReady}
 use Rattle.pim_net.specs.declared.parts.Equation.{Equation}
 use Rattle.pim_net.specs.declared.parts.OutRef.{OutRef}
-use Rattle.pim_aig.specs.Flat.{put, no_literals, inputs_from, flat, flattened, output_literal}
+use Rattle.pim_net.specs.Tables.{put}
+use Rattle.pim_aig.specs.Flat.{no_literals, inputs_from, flat, flattened, output_literal}
 use Rattle.pim_aig.specs.Literals.{complement, plain}
 use Rattle.pim_aig.specs.Values.{literal_value, values_from, aval}
 use Rattle.pim_aig.specs.declared.literal.Lit.{Lit}

@@ -1,7 +1,8 @@
 -- The flat graph of a netlist.
-use Rattle.std.specs.Prelude.{ℕ, suc, ◌+◌, ◌-◌, ◌==◌, if◌then◌else◌, List, [], ◌∷◌, length, map, Option, Some, None, slice_get, sum_by}
+use Rattle.std.specs.Prelude.{ℕ, suc, ◌+◌, ◌-◌, if◌then◌else◌, List, [], ◌∷◌, length, map, Option, Some, None, slice_get, sum_by}
 use Rattle.pim_net.specs.Covers.{CoverView}
 use Rattle.pim_net.specs.Netlist.{NetView}
+use Rattle.pim_net.specs.Tables.{put}
 use Rattle.pim_net.specs.declared.cover.Bit3.{Bit3}
 use Rattle.pim_net.specs.declared.cover.Bit3.TheVariants.{Zero, One, Any}
 use Rattle.pim_net.specs.declared.parts.Equation.{Equation}
@@ -16,10 +17,6 @@ use Rattle.pim_aig.specs.declared.graph.And.{And}
 pub record Flattened : Type 0 where
   pub ands : List And
   pub lits : ℕ → Lit
-
--- the signals' literals with one more
-abbrev pub put : (ℕ → Lit) → ℕ → Lit → ℕ → Lit
-put lits s l t = if t == s then l else lits t
 
 -- before there is any literal
 abbrev pub no_literals : ℕ → Lit

@@ -1,19 +1,24 @@
 ghost use Rattle.std.specs.Prelude.{◌≡◌, ◌<◌, ◌≤◌, [], List, All, length, IfErr, IfOk};
 ghost use Rattle.pim_aig.specs.Chains.{chain, cover_from, row_literals, rows_from};
-ghost use Rattle.pim_aig.specs.inner.Tables.{literals_of};
+ghost use Rattle.pim_net.specs.Tables.{values as literals_of};
 ghost use Rattle.pim_aig.specs.Faults.{Says};
 ghost use Rattle.pim_aig.specs.Graph.{IsOfFirst, nodes};
+ghost use Rattle.pim_aig.specs.inner.Tables.{AreOfFirst};
 ghost use Rattle.pim_aig.specs.inner.Growing.{Grows};
 
 use crate::chain::{chain, link};
 use crate::{Aig, FlatFault, Lit};
-use pim_net::{Bit3, Cover};
+use pim_net::{Bit3, Cover, SignalTable};
 use std::alloc::Global;
 
 /// The chain of the literals that a row asks: a column's literal where the cell is one, its complement where it is zero.
-fn row_chain(aig: &mut Aig, table: &[Lit], ins: &[u32], row: &[Bit3]) -> Result<Lit, FlatFault>
-    requires there { All (IsOfFirst (nodes aig.old)) table.now }
-    requires columns { All (λ s. s < length table.now) ins.now }
+fn row_chain(
+    aig: &mut Aig,
+    table: &SignalTable<Lit>,
+    ins: &[u32],
+    row: &[Bit3],
+) -> Result<Lit, FlatFault>
+    requires there { AreOfFirst (nodes aig.old) (literals_of table.now) }
     requires whole { length row.now ≡ length ins.now }
     ensures made { IfOk result (λ l. record { ands = aig.new.ands; lit = l }
         ≡ chain aig.old.inputs aig.old.ands (row_literals (literals_of table.now) ins.now row.now)) }
@@ -24,7 +29,7 @@ fn row_chain(aig: &mut Aig, table: &[Lit], ins: &[u32], row: &[Bit3]) -> Result<
 {
     let mut last = None;
     for (k, cell) in row.iter().enumerate() {
-        let literal = table[ins[k] as usize];
+        let literal = table.at(ins[k]);
         match cell {
             Bit3::Any => {}
             Bit3::One => last = Some(link(aig, last, literal)?),
@@ -35,9 +40,13 @@ fn row_chain(aig: &mut Aig, table: &[Lit], ins: &[u32], row: &[Bit3]) -> Result<
 }
 
 /// The complements of the rows' chains, one after another.
-fn rows(alloc: Global, aig: &mut Aig, table: &[Lit], cover: &Cover) -> Result<Vec<Lit>, FlatFault>
-    requires there { All (IsOfFirst (nodes aig.old)) table.now }
-    requires columns { All (λ s. s < length table.now) cover.now.ins }
+fn rows(
+    alloc: Global,
+    aig: &mut Aig,
+    table: &SignalTable<Lit>,
+    cover: &Cover,
+) -> Result<Vec<Lit>, FlatFault>
+    requires there { AreOfFirst (nodes aig.old) (literals_of table.now) }
     ensures made { IfOk result (λ ls. record { ands = aig.new.ands; lits = ls.items }
         ≡ rows_from aig.old.inputs (literals_of table.now) cover.now.ins aig.old.ands [] cover.now.rows) }
     ensures there { IfOk result (λ ls. All (IsOfFirst (nodes aig.new)) ls.items) }
@@ -57,11 +66,10 @@ fn rows(alloc: Global, aig: &mut Aig, table: &[Lit], cover: &Cover) -> Result<Ve
 pub(crate) fn cover_literal(
     alloc: Global,
     aig: &mut Aig,
-    table: &[Lit],
+    table: &SignalTable<Lit>,
     cover: &Cover,
 ) -> Result<Lit, FlatFault>
-    requires there { All (IsOfFirst (nodes aig.old)) table.now }
-    requires columns { All (λ s. s < length table.now) cover.now.ins }
+    requires there { AreOfFirst (nodes aig.old) (literals_of table.now) }
     ensures made { IfOk result (λ l. record { ands = aig.new.ands; lit = l }
         ≡ cover_from aig.old.inputs (literals_of table.now) aig.old.ands cover.now) }
     ensures there { IfOk result (IsOfFirst (nodes aig.new)) }

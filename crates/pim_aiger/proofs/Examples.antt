@@ -102,6 +102,6 @@ no_symbol : net_of (and_text ++ line (codes "i2 x")) ≡ Err (faults.Symbol 26)
 unfolding text_net_of text_whole text_parts closing judged_net header_at line_at input_at output_at gate_at many names_at digits number_of
 no_symbol = refl
 
-undriven : net_of (line (codes "aag 2 1 0 1 0") ++ line (codes "2") ++ line (codes "4")) ≡ Err (faults.Net (Undriven 2) (codes "v0" ∷ codes "v1" ∷ codes "v2" ∷ []))
+undriven : net_of (line (codes "aag 2 1 0 1 0") ++ line (codes "2") ++ line (codes "4")) ≡ Err (faults.Net (Undriven 2) (codes "v2" ∷ []))
 unfolding text_net_of text_whole text_parts closing judged_net header_at line_at input_at output_at gate_at many names_at digits number_of
 undriven = refl

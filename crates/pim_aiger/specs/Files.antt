@@ -1,11 +1,11 @@
 -- The netlist of an AIGER file: the bytes are a header line, then as many parts as the header says, then symbols. The
 -- first part that breaks a rule gives the fault (AIGER 20071012, "ASCII format" and "Binary format").
-use Rattle.std.specs.Prelude.{ℕ, ◌+◌, List, [], ◌∷◌, drop, map, Option, Some, None, Result, Ok, Err, if◌then◌else◌}
+use Rattle.std.specs.Prelude.{ℕ, List, [], ◌∷◌, drop, map, Option, Some, None, Result, Ok, Err, if◌then◌else◌}
 use Rattle.std.specs.List.{range_with_len}
 use Rattle.std.specs.Fmt.{decimal}
 use Rattle.pim_io.specs.Names.{label}
 use Rattle.pim_net.specs.Netlist.{DraftView}
-use Rattle.pim_net.specs.Faults.{net_fault}
+use Rattle.pim_net.specs.Faults.{net_fault, signals_of}
 use Rattle.pim_net.specs.declared.fault.NetFault.{NetFault}
 use Rattle.pim_net.specs.declared.parts.Equation.{Equation}
 use Rattle.pim_net.specs.declared.parts.OutRef.{OutRef}
@@ -24,11 +24,6 @@ use Rattle.pim_aiger.specs.SymbolTable.{NamesView, names_at, all_labels}
 abbrev pub after_tag : List ℕ → Cursor
 after_tag bytes = record { place = 4; rest = drop 4 bytes }
 
--- a netlist that was read whole, with its greatest variable
-pub record WholeView : Type 0 where
-  pub greatest : ℕ
-  pub draft : DraftView
-
 -- the parts as a netlist: signal v for variable v
 abbrev pub netlist : List ℕ → List OutRef → List Equation → NamesView → DraftView
 netlist inputs outputs equations names = record {
@@ -39,27 +34,27 @@ netlist inputs outputs equations names = record {
   output_labels = all_labels 111 0 names.outputs;
 }
 
--- the labels of the signals 0 to `greatest`: variable 7 is called v7
-abbrev pub signal_labels : ℕ → List (List ℕ)
-signal_labels greatest = map (λ v. label (118 ∷ decimal v)) (range_with_len 0 (greatest + 1))
+-- the labels of variables: variable 7 is called v7
+abbrev pub labels_of : List ℕ → List (List ℕ)
+labels_of variables = map (λ v. label (118 ∷ decimal v)) variables
 
--- a netlist that has this fault, or none
-abbrev pub with_fault : ℕ → DraftView → Option NetFault → Result DraftView AigerFault
-with_fault greatest draft None = Ok draft
-with_fault greatest draft (Some fault) = Err (faults.Net fault (signal_labels greatest))
+-- a netlist that has this fault, or none; the fault comes with the labels of the signals that it names
+abbrev pub with_fault : DraftView → Option NetFault → Result DraftView AigerFault
+with_fault draft None = Ok draft
+with_fault draft (Some fault) = Err (faults.Net fault (labels_of (signals_of fault)))
 
 -- a netlist that was read whole, where it is well-formed
-unfoldable pub judged_net : WholeView → Result DraftView AigerFault
-judged_net whole = with_fault whole.greatest whole.draft (net_fault whole.draft)
+unfoldable pub judged_net : DraftView → Result DraftView AigerFault
+judged_net draft = with_fault draft (net_fault draft)
 
 -- the end of a file: its symbols
-unfoldable pub closing : HeaderView → List ℕ → List OutRef → List Equation → Cursor → Result WholeView AigerFault
+unfoldable pub closing : HeaderView → List ℕ → List OutRef → List Equation → Cursor → Result DraftView AigerFault
 closing header inputs outputs equations c = do
   names ← names_at header c
-  Ok (record { greatest = header.greatest; draft = netlist inputs outputs equations names })
+  Ok (netlist inputs outputs equations names)
 
 -- a file in the ASCII form: a line for each input, each output and each gate
-unfoldable pub text_parts : HeaderView → Cursor → Result WholeView AigerFault
+unfoldable pub text_parts : HeaderView → Cursor → Result DraftView AigerFault
 text_parts header c = do
   inputs ← many (λ k. input_at header.greatest) 0 header.inputs c
   outputs ← many (λ k. output_at header.greatest) 0 header.outputs inputs.1
@@ -67,21 +62,21 @@ text_parts header c = do
   closing header inputs.0 outputs.0 equations.0 equations.1
 
 -- a file in the binary form: the inputs are the variables from 1 on, and the gates are codes
-unfoldable pub binary_parts : HeaderView → Cursor → Result WholeView AigerFault
+unfoldable pub binary_parts : HeaderView → Cursor → Result DraftView AigerFault
 binary_parts header c = do
   outputs ← many (λ k. output_at header.greatest) 0 header.outputs c
   equations ← with_front (constant ∷ []) (many (binary_gate_at header.inputs) 0 header.gates outputs.1)
   closing header (range_with_len 1 header.inputs) outputs.0 equations.0 equations.1
 
 -- the whole of a file in the ASCII form
-unfoldable pub text_whole : List ℕ → Result WholeView AigerFault
+unfoldable pub text_whole : List ℕ → Result DraftView AigerFault
 text_whole bytes =
     if has_tag Text bytes
     then (header_at Text (after_tag bytes) >>= λ header. text_parts header.0 header.1)
     else Err faults.Header
 
 -- the whole of a file in the binary form
-unfoldable pub binary_whole : List ℕ → Result WholeView AigerFault
+unfoldable pub binary_whole : List ℕ → Result DraftView AigerFault
 binary_whole bytes =
     if has_tag Binary bytes
     then (header_at Binary (after_tag bytes) >>= λ header. binary_parts header.0 header.1)

@@ -31,7 +31,7 @@ pub enum AigerFault {
     /// The line at this place is no symbol of an input or an output that is there.
     #[error("a symbol is wrong")]
     Symbol(u32),
-    /// The netlist is not well-formed; variable 7 is called `v7`.
+    /// The netlist is not well-formed; the labels of the signals that the fault names, of which variable 7 is called `v7`.
     #[error("the netlist is not well-formed")]
     Net(NetFault, Names),
     /// A count passes its limit.

@@ -1,7 +1,7 @@
 ghost use Rattle.std.specs.Prelude.{◌≡◌, ◌+◌, ◌<◌, ◌≤◌, ◌∷◌, ◌++◌, [], length, All, unwrap_or, IfOk, OnOk};
 ghost use Rattle.std.specs.Fmt.{decimal};
 ghost use Rattle.pim_io.specs.Names.{label};
-ghost use Rattle.pim_aiger.specs.Files.{signal_labels};
+ghost use Rattle.pim_aiger.specs.Files.{labels_of};
 ghost use Rattle.pim_aiger.specs.SymbolTable.{all_labels};
 ghost use Rattle.pim_io.specs.declared.limits.TheConstants.{MAX_NAME};
 ghost use Rattle.pim_net.specs.declared.limits.TheConstants.{MAX_OUTPUTS, MAX_SIGNALS};
@@ -117,15 +117,14 @@ pub(crate) fn add_outputs(
     Ok(())
 }
 
-/// The labels of the signals 0 to `greatest`, which are called by the letter `v` and their variables.
-pub(crate) fn signal_labels(alloc: Global, greatest: u32) -> Result<Names, NoMemory>
-    requires { greatest < MAX_SIGNALS }
-    ensures { IfOk result (λ names. names ≡ signal_labels greatest) }
+/// The labels of variables, each called by the letter `v` and its number.
+pub(crate) fn labels(alloc: Global, variables: &[u32]) -> Result<Names, NoMemory>
+    ensures { IfOk result (λ labels. labels ≡ labels_of variables.now) }
 {
-    let mut names = Names::new(alloc);
-    for v in 0..greatest + 1 {
-        let name = numbered(alloc, b'v', v)?;
-        names.push(&name)?;
+    let mut labels = Names::new(alloc);
+    for variable in variables {
+        let name = numbered(alloc, b'v', *variable)?;
+        labels.push(&name)?;
     }
-    Ok(names)
+    Ok(labels)
 }

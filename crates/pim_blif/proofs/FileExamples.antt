@@ -149,8 +149,8 @@ many_signals names count new =
     ap (λ known. fault_if (not known && leb 1048576 (length names)) (faults.TooLarge kinds.Signals)) new
     ∙ ap (λ n. fault_if (leb 1048576 n) (faults.TooLarge kinds.Signals)) count
 
--- a netlist that is not well-formed, with the labels of its signals
-undriven : net_of (line (codes ".outputs f") (line (codes ".names u f") (line (codes "1 1") []))) ≡ Err (faults.Net (net_faults.Undriven 1) (codes "f" ∷ codes "u" ∷ []))
+-- a netlist that is not well-formed, with the label of the signal
+undriven : net_of (line (codes ".outputs f") (line (codes ".names u f") (line (codes "1 1") []))) ≡ Err (faults.Net (net_faults.Undriven 1) (codes "u" ∷ []))
 unfolding net_of netlist_by judged_net directive_named row_at line
 undriven = refl
 

@@ -1,16 +1,17 @@
 -- The numbers of names, as places in a list of slices, and the names once one is added.
-use Rattle.std.proofs.Common.{◌≡◌, ℕ, suc, ◌+◌, ◌<◌, ◌≤◌, Bool, true, false, ◌||◌, not, cond, List, [], ◌∷◌, ◌++◌, length, refl, ap, sym, ◌∙◌, arith, subst, get_or, eqb, ltb, length-append}
+use Rattle.std.proofs.Common.{◌≡◌, ℕ, zero, suc, Some, None, codes, slice_get, ◌+◌, ◌<◌, ◌≤◌, Bool, true, false, ◌||◌, not, cond, List, [], ◌∷◌, ◌++◌, length, refl, ap, sym, ◌∙◌, arith, subst, get_or, eqb, ltb, length-append}
 use Rattle.std.specs.Borrow.{Bor}
 use Rattle.std.specs.List.{All, list_any, position_or_len}
 use Rattle.std.specs.Str.{bytes_eq}
 use Rattle.std.proofs.lemmas.Bool.Decides.{nat_tests}
 use Rattle.std.proofs.lemmas.List.{map-append, length-map, get_or-map}
 use Rattle.std.proofs.lemmas.List.Elements.{All-same, All-push}
+use Rattle.std.proofs.lemmas.Option.{slice_get_within, slice_get-get_or}
 use Rattle.indexmap.specs.IndexSet.{insert_key}
 use Rattle.pim_net.specs.Labels.{IsName}
 use Rattle.pim_net.specs.declared.limits.TheConstants.{MAX_SIGNALS}
 use Rattle.pim_blif.specs.inner.Reading.{texts}
-use Rattle.pim_blif.specs.Signals.{signal_number, is_known, with_name}
+use Rattle.pim_blif.specs.Signals.{name_of, signal_number, is_known, with_name}
 
 eqb_same : (a b : ℕ) → eqb a b ≡ eqb b a
 eqb_same a b = grind (arith, nat_tests)
@@ -68,3 +69,18 @@ label_at keys items i d same labels l =
     let within : i < length keys = omega (arith, ap length same) in
     let at : get_or (texts keys) i d.now ≡ (get_or keys i d).now = get_or-map (λ (slice : Bor (List ℕ)). slice.now) keys i d d.now within in
     rw same (subst IsName at (labels i d.now (omega arith)))
+
+-- a slice that stands at a place holds a name
+pub named_at : (keys : List (Bor (List ℕ))) (i : ℕ) (key : Bor (List ℕ)) → Some key ≡ slice_get keys i → All IsName (texts keys) → IsName key.now
+named_at keys i key at names =
+    let inside : i < length keys = slice_get_within keys i key (sym at) in
+    let is : Some (get_or keys i key) ≡ Some key = sym (slice_get-get_or keys i key inside) ∙ sym at in
+    let same : get_or keys i key ≡ key = cc in
+    subst (λ (k : Bor (List ℕ)). IsName k.now) same (label_at keys keys i key refl names inside)
+
+-- a number without a place has a question mark for its name
+pub unnamed_at : (keys : List (Bor (List ℕ))) (i : ℕ) → None ≡ slice_get keys i → codes "?" ≡ name_of (texts keys) i
+unnamed_at [] zero at = refl
+unnamed_at [] (suc i) at = refl
+unnamed_at (key ∷ keys) zero at = cc
+unnamed_at (key ∷ keys) (suc i) at = unnamed_at keys i at

@@ -4,12 +4,13 @@ use Rattle.std.specs.Prelude.{ℕ, List, [], ◌∷◌, map, Option, Some, None,
 use Rattle.std.specs.Option.{option_or}
 use Rattle.pim_io.specs.Names.{label}
 use Rattle.pim_net.specs.Netlist.{DraftView}
-use Rattle.pim_net.specs.Faults.{net_fault}
+use Rattle.pim_net.specs.Faults.{net_fault, signals_of}
 use Rattle.pim_net.specs.declared.fault.NetFault.{NetFault}
 use Rattle.pim_blif.specs.declared.fault.BlifFault.{BlifFault}
 use Rattle.pim_blif.specs.declared.fault.BlifFault.TheVariants as faults
 use Rattle.pim_blif.specs.Statements.{Statement, statements}
 use Rattle.pim_blif.specs.StatementFaults.{fault_of}
+use Rattle.pim_blif.specs.Signals.{name_of}
 use Rattle.pim_blif.specs.Netlists.{names_of, netlist_of}
 
 -- the fault of the first faulty statement, where these stand before, the latest first
@@ -22,10 +23,14 @@ abbrev pub file_fault : List Statement → Option BlifFault
 file_fault [] = Some (faults.Syntax 1)
 file_fault (s ∷ rest) = first_fault [] (s ∷ rest)
 
--- a netlist that has this fault, or none; the fault comes with the labels of the signals
+-- the labels of signals that have these names
+abbrev pub labels_of : List (List ℕ) → List ℕ → List (List ℕ)
+labels_of names signals = map (λ s. label (name_of names s)) signals
+
+-- a netlist that has this fault, or none; the fault comes with the labels of the signals that it names
 abbrev pub with_fault : List (List ℕ) → DraftView → Option NetFault → Result DraftView BlifFault
 with_fault names draft None = Ok draft
-with_fault names draft (Some fault) = Err (faults.Net fault (map label names))
+with_fault names draft (Some fault) = Err (faults.Net fault (labels_of names (signals_of fault)))
 
 -- a netlist that was read whole, where it is well-formed
 unfoldable pub judged_net : List (List ℕ) → DraftView → Result DraftView BlifFault

@@ -1,11 +1,15 @@
 -- The names of signals, and their numbers: a name has the place at which it first came.
-use Rattle.std.specs.Prelude.{ℕ, suc, List, [], ◌∷◌, ◌++◌, Bool, if◌then◌else◌, length, nat_lt}
+use Rattle.std.specs.Prelude.{ℕ, suc, List, [], ◌∷◌, ◌++◌, Bool, if◌then◌else◌, length, nat_lt, codes, slice_get, unwrap_or}
 use Rattle.std.specs.Str.{bytes_eq}
 
 -- the number of a name: its place among the names, and for a new one the place behind them
 abbrev pub signal_number : List (List ℕ) → List ℕ → ℕ
 signal_number [] name = 0
 signal_number (known ∷ names) name = if bytes_eq known name then 0 else suc (signal_number names name)
+
+-- the name of a number; each signal of a netlist has one, and what has none would be called by a question mark
+abbrev pub name_of : List (List ℕ) → ℕ → List ℕ
+name_of names number = unwrap_or (slice_get names number) (codes "?")
 
 -- whether a name is among the names
 abbrev pub is_known : List (List ℕ) → List ℕ → Bool

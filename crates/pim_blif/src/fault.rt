@@ -25,7 +25,7 @@ pub enum BlifFault {
     /// The line names an input that is one already.
     #[error("an input is declared twice")]
     TwiceInput(u32),
-    /// The netlist is not well-formed; the labels of its signals, in the order of their numbers.
+    /// The netlist is not well-formed; the labels of the signals that the fault names.
     #[error("the netlist is not well-formed")]
     Net(NetFault, Names),
     /// A count passes its limit.

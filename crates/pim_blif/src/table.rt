@@ -1,12 +1,11 @@
-ghost use Rattle.std.specs.Prelude.{◌≡◌, ◌≤◌, [], length, map, IfOk, IfSome, IfNone, OnErr};
-ghost use Rattle.pim_io.specs.Names.{label};
+ghost use Rattle.std.specs.Prelude.{◌≡◌, ◌≤◌, [], length, IfOk, IfSome, IfNone, OnErr};
 ghost use Rattle.pim_net.specs.Labels.{IsName};
-ghost use Rattle.pim_blif.specs.Signals.{with_name};
+ghost use Rattle.pim_blif.specs.Signals.{name_of, with_name};
 ghost use Rattle.pim_blif.specs.inner.Reading.{number_below};
 
 use indexmap::IndexSet;
 use pim_io::NoMemory;
-use pim_net::{MAX_SIGNALS, Names};
+use pim_net::MAX_SIGNALS;
 use std::alloc::Global;
 use std::marker::Model;
 
@@ -59,15 +58,15 @@ impl<'a> NameTable<'a> {
         Ok(Some(place as u32))
     }
 
-    /// The labels of the names, in order. Linear in their bytes.
-    pub(crate) fn labels(&self, alloc: Global) -> Result<Names, NoMemory>
-        ensures { IfOk result (λ labels. labels ≡ map label self.now) }
+    /// The name of a number, and a question mark where there is none.
+    pub(crate) fn name(&self, number: u32) -> &[u8]
+        ensures name { result.now ≡ name_of self.now number }
+        ensures bytes { IsName result.now }
     {
-        let mut labels = Names::new(alloc);
-        for name in self.names.as_slice() {
-            labels.push(name)?;
+        match self.names.get_index(number as usize) {
+            Some(name) => *name,
+            None => b"?",
         }
-        Ok(labels)
     }
 }
 
@@ -82,8 +81,7 @@ mod tests {
         assert_eq!(rt; table.number(b"b")?, Some(0));
         assert_eq!(rt; table.number(b"a\x07")?, Some(1));
         assert_eq!(rt; table.number(b"b")?, Some(0));
-        let labels = table.labels(rt.alloc())?;
-        assert_eq!(rt; labels.find(1), Some(b"a?".as_slice()));
+        assert!(rt; table.name(1) == b"a\x07".as_slice());
         Ok(())
     }
 }

@@ -4,8 +4,10 @@ use Rattle.pim_net.specs.Netlist.{NetView}
 use Rattle.pim_net.specs.declared.cover.Bit3.{Bit3}
 use Rattle.pim_net.specs.declared.cover.Bit3.TheVariants.{Zero, One}
 use Rattle.pim_nor.specs.Leaves.{leaves}
+use Rattle.pim_aig.specs.Flat.{flat}
+use Rattle.pim_rm3.specs.Costs.{rm3_cost}
 use Rattle.pim_compile.specs.Networks.{need, coarse_need, nors_of_two}
-use Rattle.pim_compile.specs.declared.compiling.Target.TheVariants.{Magic}
+use Rattle.pim_isa.specs.declared.target.Target.TheVariants.{Magic, Plim}
 
 -- two inputs without labels, and a cover of them that is put out
 abbrev of_two : List (List Bit3) → NetView
@@ -40,3 +42,25 @@ exclusive_or-need = refl
 input_out-need : need (record { inputs = 0 ∷ []; input_labels = []; equations = []; outputs = record { sig = 0; neg = false } ∷ []; output_labels = []; topo = [] }) Magic ≡ 1
 unfolding leaves
 input_out-need = refl
+
+-- ---- for PLiM
+-- an AND takes a cell for each input and its own, and no more
+and-plim : need (of_two ((One ∷ One ∷ []) ∷ [])) Plim ≡ 3
+and-plim = refl
+
+and-plim_coarse : coarse_need (of_two ((One ∷ One ∷ []) ∷ [])) Plim ≡ 3
+and-plim_coarse = refl
+
+-- an exclusive or has three ANDs, of which two are held with the third, and the complement of the third is the output
+exclusive_or-plim : need (of_two ((One ∷ Zero ∷ []) ∷ (Zero ∷ One ∷ []) ∷ [])) Plim ≡ 5
+exclusive_or-plim = refl
+
+exclusive_or-plim_coarse : coarse_need (of_two ((One ∷ Zero ∷ []) ∷ (Zero ∷ One ∷ []) ∷ [])) Plim ≡ 6
+exclusive_or-plim_coarse = refl
+
+-- none of the ANDs takes a cell over, since each is read complemented: three cycles for each, and two for the complement
+exclusive_or-cycles : rm3_cost (flat (of_two ((One ∷ Zero ∷ []) ∷ (Zero ∷ One ∷ []) ∷ []))) ≡ 11
+exclusive_or-cycles = refl
+
+input_out-plim : need (record { inputs = 0 ∷ []; input_labels = []; equations = []; outputs = record { sig = 0; neg = false } ∷ []; output_labels = []; topo = [] }) Plim ≡ 1
+input_out-plim = refl

@@ -2,18 +2,19 @@
 use Rattle.std.specs.Prelude.{◌≡◌, ℕ, ◌<◌, ◌≤◌}
 use Rattle.pim_aig.specs.Flat.{ands}
 use Rattle.pim_aig.specs.declared.graph.TheConstants.{MAX_ANDS}
+use Rattle.pim_isa.specs.declared.target.Target.{Target}
+use Rattle.pim_isa.specs.declared.target.Target.TheVariants.{Magic, Plim}
 use Rattle.pim_net.specs.Netlist.{NetView}
 use Rattle.pim_compile.specs.Networks.{need, coarse_need}
 use Rattle.pim_compile.specs.declared.compiling.Level.{Level}
 use Rattle.pim_compile.specs.declared.compiling.Level.TheVariants.{Zero}
-use Rattle.pim_compile.specs.declared.compiling.Target.{Target}
-use Rattle.pim_compile.specs.declared.compiling.Target.TheVariants.{Magic}
 use Rattle.pim_compile.specs.declared.refusal.Refusal.{Refusal}
 use Rattle.pim_compile.specs.declared.refusal.Refusal.TheVariants.{TooFewCells, TooLarge, NoMemory}
 
--- what a budget that was enough says of the need: for MAGIC at level 0 it is at least that
+-- what a budget that was enough says of the need: for MAGIC at level 0 it is at least that; a PLiM program may take fewer cells
 abbrev pub IsEnough : Target → Level → NetView → ℕ → Type 0
 IsEnough Magic Zero n budget = need n Magic ≤ budget
+IsEnough Plim Zero n budget = Unit {0}
 
 -- the flat graph keeps the limit of AND nodes, and the budget is enough
 pub record IsAccepted (n : NetView) (target : Target) (level : Level) (budget : ℕ) : Type 0 where
@@ -27,7 +28,7 @@ pub record IsShort (n : NetView) (target : Target) (budget needed : ℕ) : Type 
   pub below : budget < needed
 
 -- too large comes only where the flat graph has more AND nodes than the limit, and too few cells only where the budget is
--- below the need, which it names; want of memory says nothing
+-- below the need, which it names; out of memory says nothing
 abbrev pub IsRefusal : NetView → Target → ℕ → Refusal → Type 0
 IsRefusal n target budget (TooFewCells needed) = IsShort n target budget needed
 IsRefusal n target budget TooLarge = MAX_ANDS < ands n

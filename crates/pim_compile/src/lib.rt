@@ -1,8 +1,10 @@
-//! From a netlist to a program: the targets, the levels of effort, and the way through flattening, lowering and scheduling.
+//! From a netlist to a program: the levels of effort, and the way through flattening, lowering and scheduling.
 #![tactic(auto)]
 
 mod compiling;
+mod magic;
+mod ports;
 mod refusal;
 
-pub use compiling::{Level, Target, compile, need};
+pub use compiling::{Level, compile, need};
 pub use refusal::Refusal;

@@ -4,14 +4,14 @@ use thiserror::Error;
 /// Why a netlist was not compiled.
 #[derive(Clone, Copy, Debug, PartialEq, Eq, Error)]
 pub enum Refusal {
-    /// The budget is below the cells that the schedule needs.
+    /// The budget is below the cells that the netlist needs.
     #[error("too few cells")]
     TooFewCells { needed: u32 },
     /// The flat graph has more AND nodes than `pim_aig::MAX_ANDS`.
     #[error("too many nodes")]
     TooLarge,
-    /// There was no memory.
-    #[error("no memory")]
+    /// Out of memory.
+    #[error("out of memory")]
     NoMemory,
 }
 

@@ -23,11 +23,14 @@ use Rattle.pim_isa.specs.Touches.{operand_cells, names}
 use Rattle.pim_isa.specs.Validity.{fault_of}
 use Rattle.pim_file.specs.declared.fault.FileFault.{FileFault}
 use Rattle.pim_file.specs.declared.fault.FileFault.TheVariants as faults
-use Rattle.pim_file.specs.Spelled.{IsSpelledOperand, HasLine, HasPortLine, HasText}
+use Rattle.pim_file.specs.Spelled.{HasText}
+use Rattle.pim_text.specs.Spelled.{IsSpelledOperand, HasLine, HasPortLine}
+use Rattle.pim_text.specs.LineLaws.{ReadLines, OneLine, ProgramLines, LackNewlines}
 use Rattle.pim_file.specs.inner.Kept.{HasFewParts}
 use Rattle.pim_io.specs.declared.limits.TheConstants.{MAX_PROGRAM}
 use Rattle.pim_io.specs.Readings.{◌>>=◌, Gives}
-use Rattle.pim_file.specs.Text.{instr_text, nor_text, counted_text, port_text, ports_text, instrs_text, head_text, text as text_of}
+use Rattle.pim_text.specs.Text.{instr_text, nor_text, counted_text, port_text, ports_text}
+use Rattle.pim_file.specs.Text.{instrs_text, head_text, text as text_of}
 use Rattle.pim_file.specs.Reading.{start}
 use Rattle.pim_file.specs.ProgramFile.{read_from, any_size, draft_of, with_fault, validated, sized, parse1_of}
 use Rattle.pim_file.specs.inner.Kept.{within_limit, program_within_limit}
@@ -94,14 +97,15 @@ kept_draft_is bytes d e =
     let b = bind_ok (read_from any_size start (lines bytes)) sized d (sym (start_kept (lines bytes)) ∙ e) in
     b.1 ∙ ap (λ (x : ProgramView). let r : Result ProgramView FileFault = Ok x in r) (size_cases (ltb MAX_CELLS b.0.cells) b.0 d b.2)
 
-kept_is_small : (bytes : List ℕ) (d : ProgramView) → length bytes ≤ MAX_PROGRAM → read_from within_limit start (lines bytes) ≡ Ok d → HasFewParts d
-kept_is_small bytes d h e =
-    let text = draft_is bytes d (kept_draft_is bytes d e) in
-    small_text d (subst (λ (t : List ℕ). length t ≤ MAX_PROGRAM) text.0 h)
+module _ (one : OneLine) where
+  kept_is_small : (bytes : List ℕ) (d : ProgramView) → length bytes ≤ MAX_PROGRAM → read_from within_limit start (lines bytes) ≡ Ok d → HasFewParts d
+  kept_is_small bytes d h e =
+      let text = draft_is one bytes d (kept_draft_is bytes d e) in
+      small_text d (subst (λ (t : List ℕ). length t ≤ MAX_PROGRAM) text.0 h)
 
-pub kept_has_few : (bytes : List ℕ) (r : Result ProgramView FileFault) → length bytes ≤ MAX_PROGRAM → r ≡ read_from within_limit start (lines bytes) → IfOk r HasFewParts
-kept_has_few bytes (Ok d) h e = kept_is_small bytes d h (sym e)
-kept_has_few bytes (Err fault) h e = tt
+  pub kept_has_few : (bytes : List ℕ) (r : Result ProgramView FileFault) → length bytes ≤ MAX_PROGRAM → r ≡ read_from within_limit start (lines bytes) → IfOk r HasFewParts
+  kept_has_few bytes (Ok d) h e = kept_is_small bytes d h (sym e)
+  kept_has_few bytes (Err fault) h e = tt
 
 pub parse1_of-kept : (bytes : List ℕ) → parse1_of bytes ≡ program_within_limit bytes
 unfolding parse1_of draft_of
@@ -113,78 +117,49 @@ fault_cases : (fault : Option Invalid) (d p : ProgramView) → with_fault d faul
 fault_cases None d p e = ok_is d p e
 fault_cases (Some invalid) d p e = absurd cc
 
-pub program_is : (bytes : List ℕ) (p : ProgramView) → parse1_of bytes ≡ Ok p → bytes ≡ text_of p
-unfolding parse1_of
-program_is bytes p e =
-    let b = bind_ok (draft_of bytes >>= sized) validated p e in
-    let a = bind_ok (draft_of bytes) sized b.0 b.1 in
-    let same : a.0 ≡ p = size_cases (ltb MAX_CELLS a.0.cells) a.0 b.0 a.2 ∙ fault_cases (fault_of b.0) b.0 p b.2 in
-    (draft_is bytes a.0 a.1).0 ∙ ap text_of same
+module _ (one : OneLine) where
+  pub program_is : (bytes : List ℕ) (p : ProgramView) → parse1_of bytes ≡ Ok p → bytes ≡ text_of p
+  unfolding parse1_of
+  program_is bytes p e =
+      let b = bind_ok (draft_of bytes >>= sized) validated p e in
+      let a = bind_ok (draft_of bytes) sized b.0 b.1 in
+      let same : a.0 ≡ p = size_cases (ltb MAX_CELLS a.0.cells) a.0 b.0 a.2 ∙ fault_cases (fault_of b.0) b.0 p b.2 in
+      (draft_is one bytes a.0 a.1).0 ∙ ap text_of same
 
 -- the text of a program is read as it
 
-all_weaker : {X : Type 0} (P Q : X → Type 0) (xs : List X) → ((x : X) → P x → Q x) → AllByRecursion P xs → AllByRecursion Q xs
-all_weaker P Q [] f h = tt
-all_weaker P Q (x ∷ xs) f h = (f x h.0, all_weaker P Q xs f h.1)
+program_has_text : (lines : ProgramLines) (p : ProgramView) → IsProgram p → HasText p
+program_has_text lines p h =
+    let spelled = lines.has p h in
+    let few = h.few_instrs in
+    record { cells = spelled.cells; inputs = spelled.inputs; outputs = spelled.outputs; cycles = omega arith; instrs = spelled.instrs }
 
-all_front : (P : ℕ → Type 0) (xs ys : List ℕ) → AllByRecursion P (xs ++ ys) → AllByRecursion P xs
-all_front P [] ys h = tt
-all_front P (x ∷ xs) ys h = (h.0, all_front P xs ys h.1)
+module _ (read : ReadLines) (lack : LackNewlines) (lines_of : ProgramLines) where
+  pub parse1_of-text : (p : ProgramView) → IsProgram p → parse1_of (text_of p) ≡ Ok p
+  unfolding parse1_of
+  parse1_of-text p h =
+      let draft = draft_of-text read lack p (program_has_text lines_of p h) in
+      let fits : ltb MAX_CELLS p.cells ≡ false = le-ltb _ _ h.small in
+      let faultless = h.faultless in
+      rw (draft, fits, faultless) refl
 
-all_back : (P : ℕ → Type 0) (xs ys : List ℕ) → AllByRecursion P (xs ++ ys) → AllByRecursion P ys
-all_back P [] ys h = h
-all_back P (x ∷ xs) ys h = all_back P xs ys h.1
-
-spelled_operand : (operand : Operand) → AllByRecursion (λ n. n < 2 ^ 32) (operand_cells operand) → IsSpelledOperand operand
-spelled_operand Zero h = tt
-spelled_operand One h = tt
-spelled_operand (Cell c) h = h.0
-
-line_from_names : (i : Instr) → AllByRecursion (λ n. n < 2 ^ 32) (names i) → HasLine i
-line_from_names (Init cells) h = all_front (λ n. n < 2 ^ 32) cells [] h
-line_from_names (Nor t ins) h = h
-line_from_names (Rm3 p q z) h = (spelled_operand p (all_front (λ n. n < 2 ^ 32) (operand_cells p) (operand_cells q) h.1.1), spelled_operand q (all_back (λ n. n < 2 ^ 32) (operand_cells p) (operand_cells q) h.1.1), h.0)
-
-valid_line : (target : Target) (cells : ℕ) (i : Instr) → cells ≤ MAX_CELLS → IsValid target cells i → HasLine i
-valid_line target cells i small h =
-    line_from_names i (all_weaker (λ c. c < cells) (λ n. n < 2 ^ 32) (names i) (λ c below. omega arith) (recursion_from_All (λ c. c < cells) (names i) h.within))
-
-port_lines : (cells : ℕ) (ports : List Port) → cells ≤ MAX_CELLS → AllByRecursion (λ c. c < cells) (cells_of ports) → AllByRecursion HasLabel ports → AllByRecursion HasPortLine ports
-port_lines cells [] small h k = tt
-port_lines cells (p ∷ ports) small h k = (record { cell = omega arith; label = k.0 }, port_lines cells ports small h.1 k.1)
-
-program_has_text : (p : ProgramView) → IsProgram p → HasText p
-program_has_text p h = record {
-  cells = let small = h.small in omega arith;
-  inputs = port_lines p.cells p.inputs h.small (recursion_from_All (λ c. c < p.cells) (cells_of p.inputs) h.sound.inputs) (recursion_from_All HasLabel p.inputs h.input_labels);
-  outputs = port_lines p.cells p.outputs h.small (recursion_from_All (λ c. c < p.cells) (cells_of p.outputs) h.sound.outputs) (recursion_from_All HasLabel p.outputs h.output_labels);
-  cycles = let few = h.few_instrs in omega arith;
-  instrs = all_weaker (IsValid p.target p.cells) HasLine p.instrs (λ i valid. valid_line p.target p.cells i h.small valid) (recursion_from_All (IsValid p.target p.cells) p.instrs h.sound.instrs);
-}
-
-pub parse1_of-text : (p : ProgramView) → IsProgram p → parse1_of (text_of p) ≡ Ok p
-unfolding parse1_of
-parse1_of-text p h =
-    let draft = draft_of-text p (program_has_text p h) in
-    let fits : ltb MAX_CELLS p.cells ≡ false = le-ltb _ _ h.small in
-    let faultless = h.faultless in
-    rw (draft, fits, faultless) refl
-
--- no front of it is read as anything
-pub parse1_of-cut : (p : ProgramView) (k : ℕ) → IsProgram p → k < length (text_of p) → parse1_of (take k (text_of p)) ≡ Err faults.Truncated
-unfolding parse1_of
-parse1_of-cut p k h lt = let cut = draft_of-cut p k (program_has_text p h) lt in rw cut refl
+  -- no front of it is read as anything
+  pub parse1_of-cut : (p : ProgramView) (k : ℕ) → IsProgram p → k < length (text_of p) → parse1_of (take k (text_of p)) ≡ Err faults.Truncated
+  unfolding parse1_of
+  parse1_of-cut p k h lt = let cut = draft_of-cut read lack p k (program_has_text lines_of p h) lt in rw cut refl
 
 pub gives_program : (bytes : List ℕ) (r : Result ProgramView FileFault) → Gives faults.NoMemory (λ (p : ProgramView). p) r (program_within_limit bytes) → Gives faults.NoMemory (λ (p : ProgramView). p) r (parse1_of bytes)
 gives_program bytes r h = subst (λ (reading : Result ProgramView FileFault). Gives faults.NoMemory (λ (p : ProgramView). p) r reading) (sym (parse1_of-kept bytes)) h
 
-pub gives_text : (bytes : List ℕ) (r : Result ProgramView FileFault) → Gives faults.NoMemory (λ (p : ProgramView). p) r (program_within_limit bytes) → IfOk r (λ p. bytes ≡ text_of p)
-gives_text bytes (Ok p) h = program_is bytes p (gives_program bytes (Ok p) h)
-gives_text bytes (Err fault) h = tt
+module _ (one : OneLine) where
+  pub gives_text : (bytes : List ℕ) (r : Result ProgramView FileFault) → Gives faults.NoMemory (λ (p : ProgramView). p) r (program_within_limit bytes) → IfOk r (λ p. bytes ≡ text_of p)
+  gives_text bytes (Ok p) h = program_is one bytes p (gives_program bytes (Ok p) h)
+  gives_text bytes (Err fault) h = tt
 
 -- a draft is read from its text, and from no other bytes
-pub draft_of-iff : (bytes : List ℕ) (d : ProgramView) → (draft_of bytes ≡ Ok d) ↔ (HasText d × (bytes ≡ text_of d))
-draft_of-iff bytes d = (
-  λ e. let h = draft_is bytes d e in (h.1, h.0),
-  λ h. ap draft_of h.1 ∙ draft_of-text d h.0,
-)
+module _ (one : OneLine) (read : ReadLines) (lack : LackNewlines) where
+  pub draft_of-iff : (bytes : List ℕ) (d : ProgramView) → (draft_of bytes ≡ Ok d) ↔ (HasText d × (bytes ≡ text_of d))
+  draft_of-iff bytes d = (
+    λ e. let h = draft_is one bytes d e in (h.1, h.0),
+    λ h. ap draft_of h.1 ∙ draft_of-text read lack d h.0,
+  )

@@ -1,12 +1,13 @@
 mod Examples
-pub mod FieldLemmas
-pub mod InstrLemmas
-pub mod LabelLemmas
+pub mod CodeLemmas
+pub mod ItemLemmas
+pub mod ManyLemmas
+pub mod BinaryLemmas
+pub mod KeptLemmas
 pub mod Laws
 pub mod LimitLemmas
-pub mod LineLemmas
-pub mod NumberLemmas
 pub mod OneText
+pub mod OptionLemmas
 pub mod ReadBack
 mod ReadExamples
 pub mod RightLemmas

@@ -17,15 +17,17 @@ use Rattle.pim_file.specs.declared.fault.FileFault.{FileFault}
 use Rattle.pim_file.specs.declared.fault.FileFault.TheVariants as faults
 use Rattle.pim_file.specs.Sections.{Section}
 use Rattle.pim_file.specs.Sections as section
-use Rattle.pim_file.specs.LineForms.{target_of, counted_of, port_of}
-use Rattle.pim_file.specs.InstrForms.{instr_of}
-use Rattle.pim_file.specs.Spelled.{HasLine, HasPortLine, HasText}
+use Rattle.pim_text.specs.LineForms.{target_of, counted_of, port_of}
+use Rattle.pim_text.specs.InstrForms.{instr_of}
+use Rattle.pim_file.specs.Spelled.{HasText}
+use Rattle.pim_text.specs.Spelled.{HasLine, HasPortLine}
+use Rattle.pim_text.specs.LineLaws.{OneLine}
 use Rattle.pim_io.specs.Readings.{◌>>=◌}
-use Rattle.pim_file.specs.Text.{target_word, instr_text, counted_text, port_text, ports_text, instrs_text, head_text, text as text_of}
+use Rattle.pim_text.specs.Text.{target_word, instr_text, counted_text, port_text, ports_text}
+use Rattle.pim_file.specs.Text.{instrs_text, head_text, text as text_of}
 use Rattle.pim_file.specs.Reading.{Reading, start, begun, with_input, with_output, with_instr, after_form, after_target, after_cells, after_input, after_output, after_cycles, after_outputs, after_inputs, after_end, after_in, after, is_ended, line_read}
 use Rattle.pim_file.specs.ProgramFile.{read_from, any_size, draft_of}
-use Rattle.pim_file.proofs.LineLemmas.{mapped, or_is, target_is, counted_is, port_is}
-use Rattle.pim_file.proofs.InstrLemmas.{instr_is}
+use Rattle.pim_file.proofs.OptionLemmas.{mapped, or_is}
 
 -- one more port, and one more instruction, at the end of a text
 
@@ -85,142 +87,143 @@ Stands r read = ReadSo r.section r.draft read
 abbrev longer : List ℕ → List ℕ → List ℕ
 longer read line = read ++ (line ++ codes "\n")
 
-form_stands : (read line : List ℕ) (draft : Option ProgramView) (next : Reading) → read ≡ [] → after_form draft line ≡ Some next → Stands next (longer read line)
-form_stands read line draft next h e =
-    let made : Reading = record { section = section.Target; draft = draft } in
-    let tests = cond_some (bytes_eq line (codes "pim 1")) made next e in
-    let line_is : line ≡ codes "pim 1" = (bytes_eq-Decides line (codes "pim 1")).0 tests.0 in
-    subst (λ (n : Reading). Stands n (longer read line)) tests.1 (ap (λ (r : List ℕ). longer r line) h ∙ ap (λ (l : List ℕ). longer [] l) line_is)
+module _ (laws : OneLine) where
+  form_stands : (read line : List ℕ) (draft : Option ProgramView) (next : Reading) → read ≡ [] → after_form draft line ≡ Some next → Stands next (longer read line)
+  form_stands read line draft next h e =
+      let made : Reading = record { section = section.Target; draft = draft } in
+      let tests = cond_some (bytes_eq line (codes "pim 1")) made next e in
+      let line_is : line ≡ codes "pim 1" = (bytes_eq-Decides line (codes "pim 1")).0 tests.0 in
+      subst (λ (n : Reading). Stands n (longer read line)) tests.1 (ap (λ (r : List ℕ). longer r line) h ∙ ap (λ (l : List ℕ). longer [] l) line_is)
 
-target_stands : (read line : List ℕ) (draft : Option ProgramView) (next : Reading) → read ≡ codes "pim 1\n" → after_target draft line ≡ Some next → Stands next (longer read line)
-target_stands read line draft next h e =
-    let m = mapped (λ (t : Target). let made : Reading = record { section = section.Cells t; draft = draft } in made) (target_of line) next e in
-    let line_is = target_is line m.0 m.1 in
-    subst (λ (n : Reading). Stands n (longer read line)) m.2 (ap (λ (r : List ℕ). longer r line) h ∙ ap (λ (l : List ℕ). longer (codes "pim 1\n") l) line_is)
+  target_stands : (read line : List ℕ) (draft : Option ProgramView) (next : Reading) → read ≡ codes "pim 1\n" → after_target draft line ≡ Some next → Stands next (longer read line)
+  target_stands read line draft next h e =
+      let m = mapped (λ (t : Target). let made : Reading = record { section = section.Cells t; draft = draft } in made) (target_of line) next e in
+      let line_is = laws.target line m.0 m.1 in
+      subst (λ (n : Reading). Stands n (longer read line)) m.2 (ap (λ (r : List ℕ). longer r line) h ∙ ap (λ (l : List ℕ). longer (codes "pim 1\n") l) line_is)
 
-cells_stand : (read line : List ℕ) (target : Target) (next : Reading) → read ≡ codes "pim 1\ntarget " ++ target_word target ++ codes "\n" → after_cells any_size target line ≡ Some next → Stands next (longer read line)
-cells_stand read line target next h e =
-    let m = mapped (λ (n : ℕ). let made : Reading = record { section = section.Inputs; draft = Some (begun target n) } in made) (counted_of (codes "cells ") line) next e in
-    let number = counted_is (codes "cells ") line m.0 m.1 in
-    let so_far : longer read line ≡ longer (codes "pim 1\ntarget " ++ target_word target ++ codes "\n") (codes "cells " ++ decimal m.0) = ap (λ (r : List ℕ). longer r line) h ∙ ap (λ (l : List ℕ). longer (codes "pim 1\ntarget " ++ target_word target ++ codes "\n") l) number.0 in
-    let regrouped : longer (codes "pim 1\ntarget " ++ target_word target ++ codes "\n") (codes "cells " ++ decimal m.0) ≡ head_text target m.0 = append_assoc (codes "pim 1\ntarget " ++ target_word target) (codes "\n") ((codes "cells " ++ decimal m.0) ++ codes "\n") in
-    let stands : InputsRead (begun target m.0) (longer read line) = record { spelled = so_far ∙ regrouped ∙ sym (append-nil (head_text target m.0)); cells = number.1; inputs = tt; no_outputs = refl; no_instrs = refl } in
-    subst (λ (n : Reading). Stands n (longer read line)) m.2 stands
+  cells_stand : (read line : List ℕ) (target : Target) (next : Reading) → read ≡ codes "pim 1\ntarget " ++ target_word target ++ codes "\n" → after_cells any_size target line ≡ Some next → Stands next (longer read line)
+  cells_stand read line target next h e =
+      let m = mapped (λ (n : ℕ). let made : Reading = record { section = section.Inputs; draft = Some (begun target n) } in made) (counted_of (codes "cells ") line) next e in
+      let number = laws.counted (codes "cells ") line m.0 m.1 in
+      let so_far : longer read line ≡ longer (codes "pim 1\ntarget " ++ target_word target ++ codes "\n") (codes "cells " ++ decimal m.0) = ap (λ (r : List ℕ). longer r line) h ∙ ap (λ (l : List ℕ). longer (codes "pim 1\ntarget " ++ target_word target ++ codes "\n") l) number.0 in
+      let regrouped : longer (codes "pim 1\ntarget " ++ target_word target ++ codes "\n") (codes "cells " ++ decimal m.0) ≡ head_text target m.0 = append_assoc (codes "pim 1\ntarget " ++ target_word target) (codes "\n") ((codes "cells " ++ decimal m.0) ++ codes "\n") in
+      let stands : InputsRead (begun target m.0) (longer read line) = record { spelled = so_far ∙ regrouped ∙ sym (append-nil (head_text target m.0)); cells = number.1; inputs = tt; no_outputs = refl; no_instrs = refl } in
+      subst (λ (n : Reading). Stands n (longer read line)) m.2 stands
 
-input_stands : (read line : List ℕ) (draft : Option ProgramView) (next : Reading) → ReadSo section.Inputs draft read → after_input draft line ≡ Some next → Stands next (longer read line)
-input_stands read line None next h e = absurd h
-input_stands read line (Some d) next h e =
-    let m = mapped (λ (p : Port). let made : Reading = record { section = section.Inputs; draft = with_input (Some d) p } in made) (port_of (codes "input ") line) next e in
-    let port = port_is (codes "input ") line m.0 m.1 in
-    let head = head_text d.target d.cells in
-    let so_far : longer read line ≡ (head ++ ports_text (codes "input ") d.inputs) ++ port_text (codes "input ") m.0 = ap (λ (r : List ℕ). longer r line) h.spelled ∙ ap (λ (l : List ℕ). longer (head ++ ports_text (codes "input ") d.inputs) l) port.0 in
-    let pushed : (head ++ ports_text (codes "input ") d.inputs) ++ port_text (codes "input ") m.0 ≡ head ++ ports_text (codes "input ") (d.inputs ++ m.0 ∷ []) = append_assoc head (ports_text (codes "input ") d.inputs) (port_text (codes "input ") m.0) ∙ ap (λ (t : List ℕ). head ++ t) (sym (ports_text-push (codes "input ") d.inputs m.0)) in
-    let stands : InputsRead (record d { inputs = d.inputs ++ m.0 ∷ [] }) (longer read line) = record { spelled = so_far ∙ pushed; cells = h.cells; inputs = all_push HasPortLine d.inputs m.0 h.inputs port.1; no_outputs = h.no_outputs; no_instrs = h.no_instrs } in
-    subst (λ (n : Reading). Stands n (longer read line)) m.2 stands
+  input_stands : (read line : List ℕ) (draft : Option ProgramView) (next : Reading) → ReadSo section.Inputs draft read → after_input draft line ≡ Some next → Stands next (longer read line)
+  input_stands read line None next h e = absurd h
+  input_stands read line (Some d) next h e =
+      let m = mapped (λ (p : Port). let made : Reading = record { section = section.Inputs; draft = with_input (Some d) p } in made) (port_of (codes "input ") line) next e in
+      let port = laws.port (codes "input ") line m.0 m.1 in
+      let head = head_text d.target d.cells in
+      let so_far : longer read line ≡ (head ++ ports_text (codes "input ") d.inputs) ++ port_text (codes "input ") m.0 = ap (λ (r : List ℕ). longer r line) h.spelled ∙ ap (λ (l : List ℕ). longer (head ++ ports_text (codes "input ") d.inputs) l) port.0 in
+      let pushed : (head ++ ports_text (codes "input ") d.inputs) ++ port_text (codes "input ") m.0 ≡ head ++ ports_text (codes "input ") (d.inputs ++ m.0 ∷ []) = append_assoc head (ports_text (codes "input ") d.inputs) (port_text (codes "input ") m.0) ∙ ap (λ (t : List ℕ). head ++ t) (sym (ports_text-push (codes "input ") d.inputs m.0)) in
+      let stands : InputsRead (record d { inputs = d.inputs ++ m.0 ∷ [] }) (longer read line) = record { spelled = so_far ∙ pushed; cells = h.cells; inputs = all_push HasPortLine d.inputs m.0 h.inputs port.1; no_outputs = h.no_outputs; no_instrs = h.no_instrs } in
+      subst (λ (n : Reading). Stands n (longer read line)) m.2 stands
 
-output_stands : (read line : List ℕ) (draft : Option ProgramView) (next : Reading) → ReadSo section.Outputs draft read → after_output draft line ≡ Some next → Stands next (longer read line)
-output_stands read line None next h e = absurd h
-output_stands read line (Some d) next h e =
-    let m = mapped (λ (p : Port). let made : Reading = record { section = section.Outputs; draft = with_output (Some d) p } in made) (port_of (codes "output ") line) next e in
-    let port = port_is (codes "output ") line m.0 m.1 in
-    let head = head_text d.target d.cells ++ ports_text (codes "input ") d.inputs in
-    let so_far : longer read line ≡ (head ++ ports_text (codes "output ") d.outputs) ++ port_text (codes "output ") m.0 = ap (λ (r : List ℕ). longer r line) h.spelled ∙ ap (λ (l : List ℕ). longer (head ++ ports_text (codes "output ") d.outputs) l) port.0 in
-    let pushed : (head ++ ports_text (codes "output ") d.outputs) ++ port_text (codes "output ") m.0 ≡ head ++ ports_text (codes "output ") (d.outputs ++ m.0 ∷ []) = append_assoc head (ports_text (codes "output ") d.outputs) (port_text (codes "output ") m.0) ∙ ap (λ (t : List ℕ). head ++ t) (sym (ports_text-push (codes "output ") d.outputs m.0)) in
-    let stands : OutputsRead (record d { outputs = d.outputs ++ m.0 ∷ [] }) (longer read line) = record { spelled = so_far ∙ pushed; cells = h.cells; inputs = h.inputs; outputs = all_push HasPortLine d.outputs m.0 h.outputs port.1; no_instrs = h.no_instrs } in
-    subst (λ (n : Reading). Stands n (longer read line)) m.2 stands
+  output_stands : (read line : List ℕ) (draft : Option ProgramView) (next : Reading) → ReadSo section.Outputs draft read → after_output draft line ≡ Some next → Stands next (longer read line)
+  output_stands read line None next h e = absurd h
+  output_stands read line (Some d) next h e =
+      let m = mapped (λ (p : Port). let made : Reading = record { section = section.Outputs; draft = with_output (Some d) p } in made) (port_of (codes "output ") line) next e in
+      let port = laws.port (codes "output ") line m.0 m.1 in
+      let head = head_text d.target d.cells ++ ports_text (codes "input ") d.inputs in
+      let so_far : longer read line ≡ (head ++ ports_text (codes "output ") d.outputs) ++ port_text (codes "output ") m.0 = ap (λ (r : List ℕ). longer r line) h.spelled ∙ ap (λ (l : List ℕ). longer (head ++ ports_text (codes "output ") d.outputs) l) port.0 in
+      let pushed : (head ++ ports_text (codes "output ") d.outputs) ++ port_text (codes "output ") m.0 ≡ head ++ ports_text (codes "output ") (d.outputs ++ m.0 ∷ []) = append_assoc head (ports_text (codes "output ") d.outputs) (port_text (codes "output ") m.0) ∙ ap (λ (t : List ℕ). head ++ t) (sym (ports_text-push (codes "output ") d.outputs m.0)) in
+      let stands : OutputsRead (record d { outputs = d.outputs ++ m.0 ∷ [] }) (longer read line) = record { spelled = so_far ∙ pushed; cells = h.cells; inputs = h.inputs; outputs = all_push HasPortLine d.outputs m.0 h.outputs port.1; no_instrs = h.no_instrs } in
+      subst (λ (n : Reading). Stands n (longer read line)) m.2 stands
 
-cycles_stand : (read line : List ℕ) (draft : Option ProgramView) (next : Reading) → ReadSo section.Outputs draft read → after_cycles draft line ≡ Some next → Stands next (longer read line)
-cycles_stand read line None next h e = absurd h
-cycles_stand read line (Some d) next h e =
-    let m = mapped (λ (n : ℕ). let made : Reading = record { section = section.Instrs n; draft = Some d } in made) (counted_of (codes "cycles ") line) next e in
-    let number = counted_is (codes "cycles ") line m.0 m.1 in
-    let head = head_text d.target d.cells ++ ports_text (codes "input ") d.inputs ++ ports_text (codes "output ") d.outputs in
-    let none : length d.instrs ≡ 0 = ap length h.no_instrs in
-    let count : length d.instrs + m.0 ≡ m.0 = omega arith in
-    let so_far : longer read line ≡ head ++ counted_text (codes "cycles ") m.0 = ap (λ (r : List ℕ). longer r line) h.spelled ∙ ap (λ (l : List ℕ). longer head l) number.0 in
-    let counted : head ++ counted_text (codes "cycles ") m.0 ≡ head ++ counted_text (codes "cycles ") (length d.instrs + m.0) = ap (λ (n : ℕ). head ++ counted_text (codes "cycles ") n) (sym count) in
-    let closed : head ++ counted_text (codes "cycles ") (length d.instrs + m.0) ≡ head ++ counted_text (codes "cycles ") (length d.instrs + m.0) ++ instrs_text d.instrs = sym (append-nil (head ++ counted_text (codes "cycles ") (length d.instrs + m.0))) ∙ ap (λ (is : List Instr). head ++ counted_text (codes "cycles ") (length d.instrs + m.0) ++ instrs_text is) (sym h.no_instrs) in
-    let small : length d.instrs + m.0 < 2 ^ 32 = subst (λ (n : ℕ). n < 2 ^ 32) (sym count) number.1 in
-    let stands : InstrsRead m.0 d (longer read line) = record { spelled = so_far ∙ counted ∙ closed; cells = h.cells; inputs = h.inputs; outputs = h.outputs; cycles = small; instrs = subst (λ (is : List Instr). AllByRecursion HasLine is) (sym h.no_instrs) tt } in
-    subst (λ (n : Reading). Stands n (longer read line)) m.2 stands
+  cycles_stand : (read line : List ℕ) (draft : Option ProgramView) (next : Reading) → ReadSo section.Outputs draft read → after_cycles draft line ≡ Some next → Stands next (longer read line)
+  cycles_stand read line None next h e = absurd h
+  cycles_stand read line (Some d) next h e =
+      let m = mapped (λ (n : ℕ). let made : Reading = record { section = section.Instrs n; draft = Some d } in made) (counted_of (codes "cycles ") line) next e in
+      let number = laws.counted (codes "cycles ") line m.0 m.1 in
+      let head = head_text d.target d.cells ++ ports_text (codes "input ") d.inputs ++ ports_text (codes "output ") d.outputs in
+      let none : length d.instrs ≡ 0 = ap length h.no_instrs in
+      let count : length d.instrs + m.0 ≡ m.0 = omega arith in
+      let so_far : longer read line ≡ head ++ counted_text (codes "cycles ") m.0 = ap (λ (r : List ℕ). longer r line) h.spelled ∙ ap (λ (l : List ℕ). longer head l) number.0 in
+      let counted : head ++ counted_text (codes "cycles ") m.0 ≡ head ++ counted_text (codes "cycles ") (length d.instrs + m.0) = ap (λ (n : ℕ). head ++ counted_text (codes "cycles ") n) (sym count) in
+      let closed : head ++ counted_text (codes "cycles ") (length d.instrs + m.0) ≡ head ++ counted_text (codes "cycles ") (length d.instrs + m.0) ++ instrs_text d.instrs = sym (append-nil (head ++ counted_text (codes "cycles ") (length d.instrs + m.0))) ∙ ap (λ (is : List Instr). head ++ counted_text (codes "cycles ") (length d.instrs + m.0) ++ instrs_text is) (sym h.no_instrs) in
+      let small : length d.instrs + m.0 < 2 ^ 32 = subst (λ (n : ℕ). n < 2 ^ 32) (sym count) number.1 in
+      let stands : InstrsRead m.0 d (longer read line) = record { spelled = so_far ∙ counted ∙ closed; cells = h.cells; inputs = h.inputs; outputs = h.outputs; cycles = small; instrs = subst (λ (is : List Instr). AllByRecursion HasLine is) (sym h.no_instrs) tt } in
+      subst (λ (n : Reading). Stands n (longer read line)) m.2 stands
 
-end_stands : (read line : List ℕ) (draft : Option ProgramView) (next : Reading) → ReadSo (section.Instrs 0) draft read → after_end draft line ≡ Some next → Stands next (longer read line)
-end_stands read line None next h e = absurd h
-end_stands read line (Some d) next h e =
-    let made : Reading = record { section = section.Ended; draft = Some d } in
-    let tests = cond_some (bytes_eq line (codes "end")) made next e in
-    let line_is : line ≡ codes "end" = (bytes_eq-Decides line (codes "end")).0 tests.0 in
-    let head = head_text d.target d.cells ++ ports_text (codes "input ") d.inputs ++ ports_text (codes "output ") d.outputs in
-    let count : length d.instrs + 0 ≡ length d.instrs = add-zero (length d.instrs) in
-    let so_far : longer read line ≡ head ++ counted_text (codes "cycles ") (length d.instrs + 0) ++ instrs_text d.instrs ++ codes "end\n" = ap (λ (r : List ℕ). longer r line) h.spelled ∙ ap (λ (l : List ℕ). longer (head ++ counted_text (codes "cycles ") (length d.instrs + 0) ++ instrs_text d.instrs) l) line_is in
-    let whole : head ++ counted_text (codes "cycles ") (length d.instrs + 0) ++ instrs_text d.instrs ++ codes "end\n" ≡ text_of d = ap (λ (n : ℕ). head ++ counted_text (codes "cycles ") n ++ instrs_text d.instrs ++ codes "end\n") count in
-    let small : length d.instrs < 2 ^ 32 = subst (λ (n : ℕ). n < 2 ^ 32) count h.cycles in
-    let stands : EndedRead d (longer read line) = record { spelled = so_far ∙ whole; has_text = record { cells = h.cells; inputs = h.inputs; outputs = h.outputs; cycles = small; instrs = h.instrs } } in
-    subst (λ (n : Reading). Stands n (longer read line)) tests.1 stands
+  end_stands : (read line : List ℕ) (draft : Option ProgramView) (next : Reading) → ReadSo (section.Instrs 0) draft read → after_end draft line ≡ Some next → Stands next (longer read line)
+  end_stands read line None next h e = absurd h
+  end_stands read line (Some d) next h e =
+      let made : Reading = record { section = section.Ended; draft = Some d } in
+      let tests = cond_some (bytes_eq line (codes "end")) made next e in
+      let line_is : line ≡ codes "end" = (bytes_eq-Decides line (codes "end")).0 tests.0 in
+      let head = head_text d.target d.cells ++ ports_text (codes "input ") d.inputs ++ ports_text (codes "output ") d.outputs in
+      let count : length d.instrs + 0 ≡ length d.instrs = add-zero (length d.instrs) in
+      let so_far : longer read line ≡ head ++ counted_text (codes "cycles ") (length d.instrs + 0) ++ instrs_text d.instrs ++ codes "end\n" = ap (λ (r : List ℕ). longer r line) h.spelled ∙ ap (λ (l : List ℕ). longer (head ++ counted_text (codes "cycles ") (length d.instrs + 0) ++ instrs_text d.instrs) l) line_is in
+      let whole : head ++ counted_text (codes "cycles ") (length d.instrs + 0) ++ instrs_text d.instrs ++ codes "end\n" ≡ text_of d = ap (λ (n : ℕ). head ++ counted_text (codes "cycles ") n ++ instrs_text d.instrs ++ codes "end\n") count in
+      let small : length d.instrs < 2 ^ 32 = subst (λ (n : ℕ). n < 2 ^ 32) count h.cycles in
+      let stands : EndedRead d (longer read line) = record { spelled = so_far ∙ whole; has_text = record { cells = h.cells; inputs = h.inputs; outputs = h.outputs; cycles = small; instrs = h.instrs } } in
+      subst (λ (n : Reading). Stands n (longer read line)) tests.1 stands
 
-instr_stands : (read line : List ℕ) (left : ℕ) (draft : Option ProgramView) (next : Reading) → 0 < left → ReadSo (section.Instrs left) draft read → option_map (λ i. record { section = section.Instrs (left - 1); draft = with_instr draft i }) (instr_of line) ≡ Some next → Stands next (longer read line)
-instr_stands read line left None next some h e = absurd h
-instr_stands read line left (Some d) next some h e =
-    let m = mapped (λ (i : Instr). let made : Reading = record { section = section.Instrs (left - 1); draft = with_instr (Some d) i } in made) (instr_of line) next e in
-    let i = m.0 in
-    let spelled = instr_is line i m.1 in
-    let head = head_text d.target d.cells ++ ports_text (codes "input ") d.inputs ++ ports_text (codes "output ") d.outputs in
-    let n = length d.instrs + left in
-    let count : n ≡ length (d.instrs ++ i ∷ []) + (left - 1) = omega (arith, length_push d.instrs i) in
-    let so_far : longer read line ≡ (head ++ counted_text (codes "cycles ") n ++ instrs_text d.instrs) ++ (instr_text i ++ codes "\n") = ap (λ (r : List ℕ). longer r line) h.spelled ∙ ap (λ (l : List ℕ). longer (head ++ counted_text (codes "cycles ") n ++ instrs_text d.instrs) l) spelled.0 in
-    let pushed : (head ++ counted_text (codes "cycles ") n ++ instrs_text d.instrs) ++ (instr_text i ++ codes "\n") ≡ head ++ counted_text (codes "cycles ") n ++ instrs_text (d.instrs ++ i ∷ []) = append_assoc (head ++ counted_text (codes "cycles ") n) (instrs_text d.instrs) (instr_text i ++ codes "\n") ∙ ap (λ (t : List ℕ). head ++ counted_text (codes "cycles ") n ++ t) (sym (instrs_text-push d.instrs i)) in
-    let counted : head ++ counted_text (codes "cycles ") n ++ instrs_text (d.instrs ++ i ∷ []) ≡ head ++ counted_text (codes "cycles ") (length (d.instrs ++ i ∷ []) + (left - 1)) ++ instrs_text (d.instrs ++ i ∷ []) = ap (λ (k : ℕ). head ++ counted_text (codes "cycles ") k ++ instrs_text (d.instrs ++ i ∷ [])) count in
-    let small : length (d.instrs ++ i ∷ []) + (left - 1) < 2 ^ 32 = subst (λ (k : ℕ). k < 2 ^ 32) count h.cycles in
-    let stands : InstrsRead (left - 1) (record d { instrs = d.instrs ++ i ∷ [] }) (longer read line) = record { spelled = so_far ∙ pushed ∙ counted; cells = h.cells; inputs = h.inputs; outputs = h.outputs; cycles = small; instrs = all_push HasLine d.instrs i h.instrs spelled.1 } in
-    subst (λ (k : Reading). Stands k (longer read line)) m.2 stands
+  instr_stands : (read line : List ℕ) (left : ℕ) (draft : Option ProgramView) (next : Reading) → 0 < left → ReadSo (section.Instrs left) draft read → option_map (λ i. record { section = section.Instrs (left - 1); draft = with_instr draft i }) (instr_of line) ≡ Some next → Stands next (longer read line)
+  instr_stands read line left None next some h e = absurd h
+  instr_stands read line left (Some d) next some h e =
+      let m = mapped (λ (i : Instr). let made : Reading = record { section = section.Instrs (left - 1); draft = with_instr (Some d) i } in made) (instr_of line) next e in
+      let i = m.0 in
+      let spelled = laws.instr line i m.1 in
+      let head = head_text d.target d.cells ++ ports_text (codes "input ") d.inputs ++ ports_text (codes "output ") d.outputs in
+      let n = length d.instrs + left in
+      let count : n ≡ length (d.instrs ++ i ∷ []) + (left - 1) = omega (arith, length_push d.instrs i) in
+      let so_far : longer read line ≡ (head ++ counted_text (codes "cycles ") n ++ instrs_text d.instrs) ++ (instr_text i ++ codes "\n") = ap (λ (r : List ℕ). longer r line) h.spelled ∙ ap (λ (l : List ℕ). longer (head ++ counted_text (codes "cycles ") n ++ instrs_text d.instrs) l) spelled.0 in
+      let pushed : (head ++ counted_text (codes "cycles ") n ++ instrs_text d.instrs) ++ (instr_text i ++ codes "\n") ≡ head ++ counted_text (codes "cycles ") n ++ instrs_text (d.instrs ++ i ∷ []) = append_assoc (head ++ counted_text (codes "cycles ") n) (instrs_text d.instrs) (instr_text i ++ codes "\n") ∙ ap (λ (t : List ℕ). head ++ counted_text (codes "cycles ") n ++ t) (sym (instrs_text-push d.instrs i)) in
+      let counted : head ++ counted_text (codes "cycles ") n ++ instrs_text (d.instrs ++ i ∷ []) ≡ head ++ counted_text (codes "cycles ") (length (d.instrs ++ i ∷ []) + (left - 1)) ++ instrs_text (d.instrs ++ i ∷ []) = ap (λ (k : ℕ). head ++ counted_text (codes "cycles ") k ++ instrs_text (d.instrs ++ i ∷ [])) count in
+      let small : length (d.instrs ++ i ∷ []) + (left - 1) < 2 ^ 32 = subst (λ (k : ℕ). k < 2 ^ 32) count h.cycles in
+      let stands : InstrsRead (left - 1) (record d { instrs = d.instrs ++ i ∷ [] }) (longer read line) = record { spelled = so_far ∙ pushed ∙ counted; cells = h.cells; inputs = h.inputs; outputs = h.outputs; cycles = small; instrs = all_push HasLine d.instrs i h.instrs spelled.1 } in
+      subst (λ (k : Reading). Stands k (longer read line)) m.2 stands
 
-instrs_stand : (read line : List ℕ) (zero_left : Bool) (left : ℕ) (draft : Option ProgramView) (next : Reading) → eqb left 0 ≡ zero_left → ReadSo (section.Instrs left) draft read
-    → cond zero_left (after_end draft line) (option_map (λ i. record { section = section.Instrs (left - 1); draft = with_instr draft i }) (instr_of line)) ≡ Some next → Stands next (longer read line)
-instrs_stand read line true left draft next z h e =
-    let none : left ≡ 0 = eqb-true left 0 z in
-    end_stands read line draft next (subst (λ (k : ℕ). ReadSo (section.Instrs k) draft read) none h) e
-instrs_stand read line false left draft next z h e =
-    let some : left ≡ 0 → ⊥ = eqb-false left 0 z in
-    instr_stands read line left draft next (omega arith) h e
+  instrs_stand : (read line : List ℕ) (zero_left : Bool) (left : ℕ) (draft : Option ProgramView) (next : Reading) → eqb left 0 ≡ zero_left → ReadSo (section.Instrs left) draft read
+      → cond zero_left (after_end draft line) (option_map (λ i. record { section = section.Instrs (left - 1); draft = with_instr draft i }) (instr_of line)) ≡ Some next → Stands next (longer read line)
+  instrs_stand read line true left draft next z h e =
+      let none : left ≡ 0 = eqb-true left 0 z in
+      end_stands read line draft next (subst (λ (k : ℕ). ReadSo (section.Instrs k) draft read) none h) e
+  instrs_stand read line false left draft next z h e =
+      let some : left ≡ 0 → ⊥ = eqb-false left 0 z in
+      instr_stands read line left draft next (omega arith) h e
 
-outputs_stand : (read line : List ℕ) (draft : Option ProgramView) (next : Reading) → ReadSo section.Outputs draft read → after_outputs draft line ≡ Some next → Stands next (longer read line)
-outputs_stand read line draft next h e =
-    elim (or_is (after_output draft line) (after_cycles draft line) next e) [
-      | inl output ↦ output_stands read line draft next h output
-      | inr cycles ↦ cycles_stand read line draft next h cycles
-    ]
+  outputs_stand : (read line : List ℕ) (draft : Option ProgramView) (next : Reading) → ReadSo section.Outputs draft read → after_outputs draft line ≡ Some next → Stands next (longer read line)
+  outputs_stand read line draft next h e =
+      elim (or_is (after_output draft line) (after_cycles draft line) next e) [
+        | inl output ↦ output_stands read line draft next h output
+        | inr cycles ↦ cycles_stand read line draft next h cycles
+      ]
 
--- behind the inputs the outputs begin
-no_outputs_yet : (read : List ℕ) (draft : Option ProgramView) → ReadSo section.Inputs draft read → ReadSo section.Outputs draft read
-no_outputs_yet read None h = h
-no_outputs_yet read (Some d) h =
-    let head = head_text d.target d.cells ++ ports_text (codes "input ") d.inputs in
-    record {
-      spelled = h.spelled ∙ sym (append-nil head) ∙ ap (λ (ps : List Port). head ++ ports_text (codes "output ") ps) (sym h.no_outputs);
-      cells = h.cells;
-      inputs = h.inputs;
-      outputs = subst (λ (ps : List Port). AllByRecursion HasPortLine ps) (sym h.no_outputs) tt;
-      no_instrs = h.no_instrs;
-    }
+  -- behind the inputs the outputs begin
+  no_outputs_yet : (read : List ℕ) (draft : Option ProgramView) → ReadSo section.Inputs draft read → ReadSo section.Outputs draft read
+  no_outputs_yet read None h = h
+  no_outputs_yet read (Some d) h =
+      let head = head_text d.target d.cells ++ ports_text (codes "input ") d.inputs in
+      record {
+        spelled = h.spelled ∙ sym (append-nil head) ∙ ap (λ (ps : List Port). head ++ ports_text (codes "output ") ps) (sym h.no_outputs);
+        cells = h.cells;
+        inputs = h.inputs;
+        outputs = subst (λ (ps : List Port). AllByRecursion HasPortLine ps) (sym h.no_outputs) tt;
+        no_instrs = h.no_instrs;
+      }
 
-inputs_stand : (read line : List ℕ) (draft : Option ProgramView) (next : Reading) → ReadSo section.Inputs draft read → after_inputs draft line ≡ Some next → Stands next (longer read line)
-inputs_stand read line draft next h e =
-    elim (or_is (after_input draft line) (after_outputs draft line) next e) [
-      | inl input ↦ input_stands read line draft next h input
-      | inr outputs ↦ outputs_stand read line draft next (no_outputs_yet read draft h) outputs
-    ]
+  inputs_stand : (read line : List ℕ) (draft : Option ProgramView) (next : Reading) → ReadSo section.Inputs draft read → after_inputs draft line ≡ Some next → Stands next (longer read line)
+  inputs_stand read line draft next h e =
+      elim (or_is (after_input draft line) (after_outputs draft line) next e) [
+        | inl input ↦ input_stands read line draft next h input
+        | inr outputs ↦ outputs_stand read line draft next (no_outputs_yet read draft h) outputs
+      ]
 
--- one more line that is right
-line_stands : (s : Section) (draft : Option ProgramView) (read line : List ℕ) (next : Reading) → ReadSo s draft read → after_in any_size s draft line ≡ Some next → Stands next (longer read line)
-line_stands section.Form draft read line next h e = form_stands read line draft next h e
-line_stands section.Target draft read line next h e = target_stands read line draft next h e
-line_stands (section.Cells target) draft read line next h e = cells_stand read line target next h e
-line_stands section.Inputs draft read line next h e = inputs_stand read line draft next h e
-line_stands section.Outputs draft read line next h e = outputs_stand read line draft next h e
-line_stands (section.Instrs left) draft read line next h e = instrs_stand read line (eqb left 0) left draft next refl h e
-line_stands section.Ended draft read line next h e = absurd cc
+  -- one more line that is right
+  line_stands : (s : Section) (draft : Option ProgramView) (read line : List ℕ) (next : Reading) → ReadSo s draft read → after_in any_size s draft line ≡ Some next → Stands next (longer read line)
+  line_stands section.Form draft read line next h e = form_stands read line draft next h e
+  line_stands section.Target draft read line next h e = target_stands read line draft next h e
+  line_stands (section.Cells target) draft read line next h e = cells_stand read line target next h e
+  line_stands section.Inputs draft read line next h e = inputs_stand read line draft next h e
+  line_stands section.Outputs draft read line next h e = outputs_stand read line draft next h e
+  line_stands (section.Instrs left) draft read line next h e = instrs_stand read line (eqb left 0) left draft next refl h e
+  line_stands section.Ended draft read line next h e = absurd cc
 
--- the bytes of lines
+  -- the bytes of lines
 
 abbrev line_bytes : LineView → List ℕ
 line_bytes line = line.text ++ cond line.ended (codes "\n") []
@@ -288,21 +291,22 @@ end_is (section.Instrs left) draft read d h e = absurd cc
 end_is section.Ended None read d h e = absurd h
 end_is section.Ended (Some x) read d h e = subst (λ y. EndedRead y read) (ok_is x d e) h
 
-all_read : (r : Reading) (ls : List LineView) (read : List ℕ) (d : ProgramView) → Stands r read → read_from any_size r ls ≡ Ok d → EndedRead d (read ++ joined ls)
-all_read r [] read d h e = subst (λ (t : List ℕ). EndedRead d t) (sym (append-nil read)) (end_is r.section r.draft read d h e)
-all_read r (line ∷ others) read d h e =
-    let b = bind_ok (line_read any_size r line) (λ next. read_from any_size next others) d e in
-    let right = line_read_is r line b.0 b.1 in
-    let stands = line_stands r.section r.draft read line.text b.0 h right.1 in
-    let rest = all_read b.0 others (longer read line.text) d stands b.2 in
-    let bytes_are : line_bytes line ≡ line.text ++ codes "\n" = ap (λ (t : Bool). line.text ++ cond t (codes "\n") []) right.0 in
-    let regrouped : longer read line.text ++ joined others ≡ read ++ (line_bytes line ++ joined others) = append_assoc read (line.text ++ codes "\n") (joined others) ∙ ap (λ (t : List ℕ). read ++ (t ++ joined others)) (sym bytes_are) in
-    subst (λ (t : List ℕ). EndedRead d t) regrouped rest
+module _ (laws : OneLine) where
+  all_read : (r : Reading) (ls : List LineView) (read : List ℕ) (d : ProgramView) → Stands r read → read_from any_size r ls ≡ Ok d → EndedRead d (read ++ joined ls)
+  all_read r [] read d h e = subst (λ (t : List ℕ). EndedRead d t) (sym (append-nil read)) (end_is r.section r.draft read d h e)
+  all_read r (line ∷ others) read d h e =
+      let b = bind_ok (line_read any_size r line) (λ next. read_from any_size next others) d e in
+      let right = line_read_is r line b.0 b.1 in
+      let stands = line_stands laws r.section r.draft read line.text b.0 h right.1 in
+      let rest = all_read b.0 others (longer read line.text) d stands b.2 in
+      let bytes_are : line_bytes line ≡ line.text ++ codes "\n" = ap (λ (t : Bool). line.text ++ cond t (codes "\n") []) right.0 in
+      let regrouped : longer read line.text ++ joined others ≡ read ++ (line_bytes line ++ joined others) = append_assoc read (line.text ++ codes "\n") (joined others) ∙ ap (λ (t : List ℕ). read ++ (t ++ joined others)) (sym bytes_are) in
+      subst (λ (t : List ℕ). EndedRead d t) regrouped rest
 
--- what is read as a draft is its text
-pub draft_is : (bytes : List ℕ) (d : ProgramView) → draft_of bytes ≡ Ok d → (bytes ≡ text_of d) × HasText d
-unfolding draft_of
-draft_is bytes d e =
-    let h = all_read start (lines bytes) [] d refl e in
-    let whole : joined (lines bytes) ≡ bytes = joined-lines 1 0 [] bytes in
-    (sym whole ∙ h.spelled, h.has_text)
+  -- what is read as a draft is its text
+  pub draft_is : (bytes : List ℕ) (d : ProgramView) → draft_of bytes ≡ Ok d → (bytes ≡ text_of d) × HasText d
+  unfolding draft_of
+  draft_is bytes d e =
+      let h = all_read start (lines bytes) [] d refl e in
+      let whole : joined (lines bytes) ≡ bytes = joined-lines 1 0 [] bytes in
+      (sym whole ∙ h.spelled, h.has_text)

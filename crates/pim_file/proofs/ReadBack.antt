@@ -20,73 +20,14 @@ use Rattle.pim_file.specs.declared.fault.FileFault.{FileFault}
 use Rattle.pim_file.specs.declared.fault.FileFault.TheVariants as faults
 use Rattle.pim_file.specs.Sections as section
 use Rattle.pim_io.specs.Names.{is_shown, is_label}
-use Rattle.pim_file.specs.Spelled.{AreSpelled, IsSpelledOperand, HasLine, HasPortLine, HasText}
-use Rattle.pim_file.specs.Text.{target_word, numbers_text, operand_text, nor_text, instr_text, counted_text, port_text, ports_text, instrs_text, head_text, text as text_of}
+use Rattle.pim_file.specs.Spelled.{HasText}
+use Rattle.pim_text.specs.Spelled.{HasLine, HasPortLine}
+use Rattle.pim_text.specs.Fields.{lacks}
+use Rattle.pim_text.specs.LineLaws.{ReadLines, LackNewlines}
+use Rattle.pim_text.specs.Text.{target_word, instr_text, counted_text, port_line, port_text, ports_text}
+use Rattle.pim_file.specs.Text.{instrs_text, head_text, text as text_of}
 use Rattle.pim_file.specs.Reading.{Reading, start, begun, after, is_ended}
 use Rattle.pim_file.specs.ProgramFile.{read_from, any_size, draft_of}
-use Rattle.pim_file.proofs.FieldLemmas.{lacks, lacks-append, lacks-decimal}
-use Rattle.pim_file.proofs.LabelLemmas.{is_label-from_IsLabel}
-use Rattle.pim_file.proofs.LineLemmas.{target_of-text, counted_of-text, port_line, port_of-text}
-use Rattle.pim_file.proofs.InstrLemmas.{instr_of-text}
-
--- a line without a newline in it, and a newline
-lines-line : (number start : ℕ) (run line rest : List ℕ) → lacks 10 line ≡ true → lines_after number start run (line ++ 10 ∷ rest) ≡ record { number = number; start = start; text = run ++ line; ended = true } ∷ lines_after (number + 1) (start + length (run ++ line) + 1) [] rest
-lines-line number start run [] rest h = rw append-nil refl
-lines-line number start run (b ∷ line) rest h =
-    let parts = and_parts (not (eqb b 10)) (lacks 10 line) h in
-    let other : is_newline b ≡ false = not-true _ parts.0 in
-    let more = lines-line number start (run ++ b ∷ []) line rest parts.1 in
-    let whole : (run ++ b ∷ []) ++ line ≡ run ++ b ∷ line = append_assoc run (b ∷ []) line in
-    rw other (more ∙ ap (λ (t : List ℕ). record { number = number; start = start; text = t; ended = true } ∷ lines_after (number + 1) (start + length t + 1) [] rest) whole)
-
--- no newline stands in a line
-
-shown_lacks : (bytes : List ℕ) → list_all is_shown bytes ≡ true → lacks 10 bytes ≡ true
-shown_lacks [] h = refl
-shown_lacks (b ∷ bytes) h =
-    let parts = and_parts (is_shown b) (list_all is_shown bytes) h in
-    let low = and_parts _ _ parts.0 in
-    let above : 32 ≤ b = leb-true _ _ low.0 in
-    let other : eqb b 10 ≡ false = ne_eqb b 10 (λ e. omega arith) in
-    rw (other, shown_lacks bytes parts.1) refl
-
-label_lacks : (bytes : List ℕ) → is_label bytes ≡ true → lacks 10 bytes ≡ true
-label_lacks bytes h = shown_lacks bytes (and_parts _ _ h).1
-
-lacks-port : (word : List ℕ) (port : Port) → lacks 10 word ≡ true → HasPortLine port → lacks 10 (port_line word port) ≡ true
-lacks-port word port h p =
-    let number = lacks-append 10 word (decimal port.cell) h (lacks-decimal 10 port.cell (omega arith) p.cell) in
-    let space = lacks-append 10 (word ++ decimal port.cell) (codes " ") number refl in
-    lacks-append 10 ((word ++ decimal port.cell) ++ codes " ") port.label space (label_lacks port.label (is_label-from_IsLabel port.label p.label))
-
-lacks-numbers : (word ns : List ℕ) → lacks 10 word ≡ true → AreSpelled ns → lacks 10 (word ++ numbers_text ns) ≡ true
-lacks-numbers word [] h k = rw append-nil h
-lacks-numbers word (n ∷ ns) h k = lacks-append 10 word (32 ∷ (decimal n ++ numbers_text ns)) h (lacks-numbers (decimal n) ns (lacks-decimal 10 n (omega arith) k.0) k.1)
-
-lacks-operand : (operand : Operand) → IsSpelledOperand operand → lacks 10 (operand_text operand) ≡ true
-lacks-operand Zero h = refl
-lacks-operand One h = refl
-lacks-operand (Cell c) h = lacks-decimal 10 c (omega arith) h
-
-lacks-nor : (t : ℕ) (ins : Ins) → HasLine (Nor t ins) → lacks 10 (nor_text t ins) ≡ true
-lacks-nor t (Single a) h = lacks-numbers (codes "not") (t ∷ a ∷ []) refl h
-lacks-nor t (Two a b) h = lacks-numbers (codes "nor") (t ∷ a ∷ b ∷ []) refl h
-lacks-nor t (Three a b c) h = lacks-numbers (codes "nor") (t ∷ a ∷ b ∷ c ∷ []) refl h
-lacks-nor t (Four a b c d) h = lacks-numbers (codes "nor") (t ∷ a ∷ b ∷ c ∷ d ∷ []) refl h
-
-lacks-instr : (i : Instr) → HasLine i → lacks 10 (instr_text i) ≡ true
-lacks-instr (Init cells) h = lacks-numbers (codes "init") cells refl h
-lacks-instr (Nor t ins) h = lacks-nor t ins h
-lacks-instr (Rm3 p q z) h =
-    let first = lacks-append 10 (codes "rm3 ") (operand_text p) refl (lacks-operand p h.0) in
-    let space = lacks-append 10 (codes "rm3 " ++ operand_text p) (codes " ") first refl in
-    let second = lacks-append 10 ((codes "rm3 " ++ operand_text p) ++ codes " ") (operand_text q) space (lacks-operand q h.1) in
-    let at = lacks-append 10 (((codes "rm3 " ++ operand_text p) ++ codes " ") ++ operand_text q) (codes " @") second refl in
-    lacks-append 10 ((((codes "rm3 " ++ operand_text p) ++ codes " ") ++ operand_text q) ++ codes " @") (decimal z) at (lacks-decimal 10 z (omega arith) h.2)
-
-lacks-target : (target : Target) → lacks 10 (codes "target " ++ target_word target) ≡ true
-lacks-target Magic = refl
-lacks-target Plim = refl
 
 -- the bytes from a line on, which begins at this place
 abbrev read_at : ℕ → ℕ → Reading → List ℕ → Result ProgramView FileFault
@@ -120,159 +61,160 @@ last_piece number place r (b ∷ bytes) h = rw h refl
 piece_cut : (number place : ℕ) (r : Reading) (bytes : List ℕ) → is_ended r.section ≡ false → lacks 10 bytes ≡ true → read_at number place r bytes ≡ Err faults.Truncated
 piece_cut number place r bytes h l = ap (λ (ls : List LineView). read_from any_size r ls) (lines-last number place [] bytes l) ∙ last_piece number place r bytes h
 
-line_passes : (r next : Reading) (line : List ℕ) → is_ended r.section ≡ false → lacks 10 line ≡ true → after any_size r line ≡ Some next → Passes r (line ++ codes "\n") next
-line_passes r next line before h e = record {
-  whole = λ number place rest.
-      let cut : lines_after number place [] ((line ++ codes "\n") ++ rest) ≡ record { number = number; start = place; text = line; ended = true } ∷ lines_after (number + 1) (place + length line + 1) [] rest =
-      ap (λ (t : List ℕ). lines_after number place [] t) (append_assoc line (codes "\n") rest) ∙ lines-line number place [] line rest h in
-      (number + 1, place + length line + 1, ap (λ (ls : List LineView). read_from any_size r ls) cut ∙ rw e refl);
-  cut = λ number place k lt.
-      let within : k ≤ length line = omega (arith, length-append line (codes "\n")) in
-      let front : take k (line ++ codes "\n") ≡ take k line = take-append-le k line (codes "\n") within in
-      ap (λ (t : List ℕ). read_at number place r t) front ∙ piece_cut number place r (take k line) before (lacks-take 10 k line h);
-}
+module _ (laws : ReadLines) (lack : LackNewlines) where
+  line_passes : (r next : Reading) (line : List ℕ) → is_ended r.section ≡ false → lacks 10 line ≡ true → after any_size r line ≡ Some next → Passes r (line ++ codes "\n") next
+  line_passes r next line before h e = record {
+    whole = λ number place rest.
+        let cut : lines_after number place [] ((line ++ codes "\n") ++ rest) ≡ record { number = number; start = place; text = line; ended = true } ∷ lines_after (number + 1) (place + length line + 1) [] rest =
+        ap (λ (t : List ℕ). lines_after number place [] t) (append_assoc line (codes "\n") rest) ∙ lack.cut number place line rest h in
+        (number + 1, place + length line + 1, ap (λ (ls : List LineView). read_from any_size r ls) cut ∙ rw e refl);
+    cut = λ number place k lt.
+        let within : k ≤ length line = omega (arith, length-append line (codes "\n")) in
+        let front : take k (line ++ codes "\n") ≡ take k line = take-append-le k line (codes "\n") within in
+        ap (λ (t : List ℕ). read_at number place r t) front ∙ piece_cut number place r (take k line) before (lacks-take 10 k line h);
+  }
 
-parts_of : (k n : ℕ) → n ≤ k → k ≡ n + (k - n)
-parts_of k n le = omega arith
+  parts_of : (k n : ℕ) → n ≤ k → k ≡ n + (k - n)
+  parts_of k n le = omega arith
 
-passes_nil : (r : Reading) → Passes r [] r
-passes_nil r = record {
-  whole = λ number place rest. (number, place, refl);
-  cut = λ number place k lt. absurd (omega arith);
-}
+  passes_nil : (r : Reading) → Passes r [] r
+  passes_nil r = record {
+    whole = λ number place rest. (number, place, refl);
+    cut = λ number place k lt. absurd (omega arith);
+  }
 
-passes_both : (r s t : Reading) (a b : List ℕ) → Passes r a s → Passes s b t → Passes r (a ++ b) t
-passes_both r s t a b f g = record {
-  whole = λ number place rest.
-      let first = f.whole number place (b ++ rest) in
-      let second = g.whole first.0 first.1 rest in
-      (second.0, second.1, ap (λ (u : List ℕ). read_at number place r u) (append_assoc a b rest) ∙ first.2 ∙ second.2);
-  cut = λ number place k lt.
-      elim (cases_lt k (length a)) [
-        | inl early ↦
-            let within : k ≤ length a = omega arith in
-            ap (λ (u : List ℕ). read_at number place r u) (take-append-le k a b within) ∙ f.cut number place k early
-        | inr late ↦
-            let first = f.whole number place (take (k - length a) b) in
-            let inside : k - length a < length b = omega (arith, length-append a b) in
-            let inner : take k (a ++ b) ≡ a ++ take (k - length a) b = ap (λ (n : ℕ). take n (a ++ b)) (parts_of k (length a) late) ∙ take-append-add a b (k - length a) in
-            ap (λ (u : List ℕ). read_at number place r u) inner ∙ first.2 ∙ g.cut first.0 first.1 (k - length a) inside
-      ];
-}
+  passes_both : (r s t : Reading) (a b : List ℕ) → Passes r a s → Passes s b t → Passes r (a ++ b) t
+  passes_both r s t a b f g = record {
+    whole = λ number place rest.
+        let first = f.whole number place (b ++ rest) in
+        let second = g.whole first.0 first.1 rest in
+        (second.0, second.1, ap (λ (u : List ℕ). read_at number place r u) (append_assoc a b rest) ∙ first.2 ∙ second.2);
+    cut = λ number place k lt.
+        elim (cases_lt k (length a)) [
+          | inl early ↦
+              let within : k ≤ length a = omega arith in
+              ap (λ (u : List ℕ). read_at number place r u) (take-append-le k a b within) ∙ f.cut number place k early
+          | inr late ↦
+              let first = f.whole number place (take (k - length a) b) in
+              let inside : k - length a < length b = omega (arith, length-append a b) in
+              let inner : take k (a ++ b) ≡ a ++ take (k - length a) b = ap (λ (n : ℕ). take n (a ++ b)) (parts_of k (length a) late) ∙ take-append-add a b (k - length a) in
+              ap (λ (u : List ℕ). read_at number place r u) inner ∙ first.2 ∙ g.cut first.0 first.1 (k - length a) inside
+        ];
+  }
 
--- the parts of a draft, one after another
+  -- the parts of a draft, one after another
 
-abbrev form_read : Reading
-form_read = record { section = section.Target; draft = None }
+  abbrev form_read : Reading
+  form_read = record { section = section.Target; draft = None }
 
-abbrev target_read : Target → Reading
-target_read target = record { section = section.Cells target; draft = None }
+  abbrev target_read : Target → Reading
+  target_read target = record { section = section.Cells target; draft = None }
 
-abbrev inputs_read : ProgramView → Reading
-inputs_read d = record { section = section.Inputs; draft = Some d }
+  abbrev inputs_read : ProgramView → Reading
+  inputs_read d = record { section = section.Inputs; draft = Some d }
 
-abbrev ended_read : ProgramView → Reading
-ended_read d = record { section = section.Ended; draft = Some d }
+  abbrev ended_read : ProgramView → Reading
+  ended_read d = record { section = section.Ended; draft = Some d }
 
-form_passes : Passes start (codes "pim 1" ++ codes "\n") form_read
-form_passes = line_passes start form_read (codes "pim 1") refl refl refl
+  form_passes : Passes start (codes "pim 1" ++ codes "\n") form_read
+  form_passes = line_passes start form_read (codes "pim 1") refl refl refl
 
-target_passes : (target : Target) → Passes form_read ((codes "target " ++ target_word target) ++ codes "\n") (target_read target)
-target_passes target = line_passes form_read (target_read target) (codes "target " ++ target_word target) refl (lacks-target target) (rw (target_of-text target) refl)
+  target_passes : (target : Target) → Passes form_read ((codes "target " ++ target_word target) ++ codes "\n") (target_read target)
+  target_passes target = line_passes form_read (target_read target) (codes "target " ++ target_word target) refl (lack.target target) (rw (laws.target target) refl)
 
-cells_pass : (target : Target) (cells : ℕ) → cells < 2 ^ 32 → Passes (target_read target) ((codes "cells " ++ decimal cells) ++ codes "\n") (inputs_read (begun target cells))
-cells_pass target cells small =
-    line_passes (target_read target) (inputs_read (begun target cells)) (codes "cells " ++ decimal cells) refl (lacks-append 10 (codes "cells ") (decimal cells) refl (lacks-decimal 10 cells (omega arith) small)) (rw (counted_of-text (codes "cells ") cells small) refl)
+  cells_pass : (target : Target) (cells : ℕ) → cells < 2 ^ 32 → Passes (target_read target) ((codes "cells " ++ decimal cells) ++ codes "\n") (inputs_read (begun target cells))
+  cells_pass target cells small =
+      line_passes (target_read target) (inputs_read (begun target cells)) (codes "cells " ++ decimal cells) refl (lack.counted (codes "cells ") cells refl small) (rw (laws.counted (codes "cells ") cells small) refl)
 
-head_passes : (target : Target) (cells : ℕ) → cells < 2 ^ 32 → Passes start (head_text target cells) (inputs_read (begun target cells))
-head_passes target cells small =
-    let form = codes "pim 1" ++ codes "\n" in
-    let aimed = (codes "target " ++ target_word target) ++ codes "\n" in
-    let counted = (codes "cells " ++ decimal cells) ++ codes "\n" in
-    let two : Passes start (form ++ aimed) (target_read target) = passes_both start form_read (target_read target) form aimed form_passes (target_passes target) in
-    let three : Passes start ((form ++ aimed) ++ counted) (inputs_read (begun target cells)) = passes_both start (target_read target) (inputs_read (begun target cells)) (form ++ aimed) counted two (cells_pass target cells small) in
-    let regrouped : (form ++ aimed) ++ counted ≡ head_text target cells = ap (λ (t : List ℕ). codes "pim 1\ntarget " ++ t) (append_assoc (target_word target) (codes "\n") counted) in
-    subst (λ (t : List ℕ). Passes start t (inputs_read (begun target cells))) regrouped three
+  head_passes : (target : Target) (cells : ℕ) → cells < 2 ^ 32 → Passes start (head_text target cells) (inputs_read (begun target cells))
+  head_passes target cells small =
+      let form = codes "pim 1" ++ codes "\n" in
+      let aimed = (codes "target " ++ target_word target) ++ codes "\n" in
+      let counted = (codes "cells " ++ decimal cells) ++ codes "\n" in
+      let two : Passes start (form ++ aimed) (target_read target) = passes_both start form_read (target_read target) form aimed form_passes (target_passes target) in
+      let three : Passes start ((form ++ aimed) ++ counted) (inputs_read (begun target cells)) = passes_both start (target_read target) (inputs_read (begun target cells)) (form ++ aimed) counted two (cells_pass target cells small) in
+      let regrouped : (form ++ aimed) ++ counted ≡ head_text target cells = ap (λ (t : List ℕ). codes "pim 1\ntarget " ++ t) (append_assoc (target_word target) (codes "\n") counted) in
+      subst (λ (t : List ℕ). Passes start t (inputs_read (begun target cells))) regrouped three
 
-inputs_pass : (d : ProgramView) (ports : List Port) → AllByRecursion HasPortLine ports → Passes (inputs_read d) (ports_text (codes "input ") ports) (inputs_read (record d { inputs = d.inputs ++ ports }))
-inputs_pass d [] h = subst (λ (ps : List Port). Passes (inputs_read d) [] (inputs_read (record d { inputs = ps }))) (sym (append-nil d.inputs)) (passes_nil (inputs_read d))
-inputs_pass d (port ∷ ports) h =
-    let e = record d { inputs = d.inputs ++ port ∷ [] } in
-    let first : Passes (inputs_read d) (port_text (codes "input ") port) (inputs_read e) = line_passes (inputs_read d) (inputs_read e) (port_line (codes "input ") port) refl (lacks-port (codes "input ") port refl h.0) (rw (port_of-text (codes "input ") port h.0) refl) in
-    let others : Passes (inputs_read e) (ports_text (codes "input ") ports) (inputs_read (record d { inputs = (d.inputs ++ port ∷ []) ++ ports })) = inputs_pass e ports h.1 in
-    let both = passes_both (inputs_read d) (inputs_read e) (inputs_read (record d { inputs = (d.inputs ++ port ∷ []) ++ ports })) (port_text (codes "input ") port) (ports_text (codes "input ") ports) first others in
-    subst (λ (ps : List Port). Passes (inputs_read d) (ports_text (codes "input ") (port ∷ ports)) (inputs_read (record d { inputs = ps }))) (append_assoc d.inputs (port ∷ []) ports) both
+  inputs_pass : (d : ProgramView) (ports : List Port) → AllByRecursion HasPortLine ports → Passes (inputs_read d) (ports_text (codes "input ") ports) (inputs_read (record d { inputs = d.inputs ++ ports }))
+  inputs_pass d [] h = subst (λ (ps : List Port). Passes (inputs_read d) [] (inputs_read (record d { inputs = ps }))) (sym (append-nil d.inputs)) (passes_nil (inputs_read d))
+  inputs_pass d (port ∷ ports) h =
+      let e = record d { inputs = d.inputs ++ port ∷ [] } in
+      let first : Passes (inputs_read d) (port_text (codes "input ") port) (inputs_read e) = line_passes (inputs_read d) (inputs_read e) (port_line (codes "input ") port) refl (lack.port (codes "input ") port refl h.0) (rw (laws.port (codes "input ") port h.0) refl) in
+      let others : Passes (inputs_read e) (ports_text (codes "input ") ports) (inputs_read (record d { inputs = (d.inputs ++ port ∷ []) ++ ports })) = inputs_pass e ports h.1 in
+      let both = passes_both (inputs_read d) (inputs_read e) (inputs_read (record d { inputs = (d.inputs ++ port ∷ []) ++ ports })) (port_text (codes "input ") port) (ports_text (codes "input ") ports) first others in
+      subst (λ (ps : List Port). Passes (inputs_read d) (ports_text (codes "input ") (port ∷ ports)) (inputs_read (record d { inputs = ps }))) (append_assoc d.inputs (port ∷ []) ports) both
 
--- behind the inputs, where no output was read yet, and behind an output
-abbrev ports_read : Bool → ProgramView → Reading
-ports_read true d = record { section = section.Inputs; draft = Some d }
-ports_read false d = record { section = section.Outputs; draft = Some d }
+  -- behind the inputs, where no output was read yet, and behind an output
+  abbrev ports_read : Bool → ProgramView → Reading
+  ports_read true d = record { section = section.Inputs; draft = Some d }
+  ports_read false d = record { section = section.Outputs; draft = Some d }
 
-ports_before_end : (none : Bool) (d : ProgramView) → is_ended (ports_read none d).section ≡ false
-ports_before_end true d = refl
-ports_before_end false d = refl
+  ports_before_end : (none : Bool) (d : ProgramView) → is_ended (ports_read none d).section ≡ false
+  ports_before_end true d = refl
+  ports_before_end false d = refl
 
-output_right : (none : Bool) (d : ProgramView) (port : Port) → HasPortLine port → after any_size (ports_read none d) (port_line (codes "output ") port) ≡ Some (ports_read false (record d { outputs = d.outputs ++ port ∷ [] }))
-output_right true d port h = rw (port_of-text (codes "output ") port h) refl
-output_right false d port h = rw (port_of-text (codes "output ") port h) refl
+  output_right : (none : Bool) (d : ProgramView) (port : Port) → HasPortLine port → after any_size (ports_read none d) (port_line (codes "output ") port) ≡ Some (ports_read false (record d { outputs = d.outputs ++ port ∷ [] }))
+  output_right true d port h = rw (laws.port (codes "output ") port h) refl
+  output_right false d port h = rw (laws.port (codes "output ") port h) refl
 
-cycles_right : (none : Bool) (d : ProgramView) (n : ℕ) → n < 2 ^ 32 → after any_size (ports_read none d) (codes "cycles " ++ decimal n) ≡ Some (record { section = section.Instrs n; draft = Some d })
-cycles_right true d n h = rw (counted_of-text (codes "cycles ") n h) refl
-cycles_right false d n h = rw (counted_of-text (codes "cycles ") n h) refl
+  cycles_right : (none : Bool) (d : ProgramView) (n : ℕ) → n < 2 ^ 32 → after any_size (ports_read none d) (codes "cycles " ++ decimal n) ≡ Some (record { section = section.Instrs n; draft = Some d })
+  cycles_right true d n h = rw (laws.counted (codes "cycles ") n h) refl
+  cycles_right false d n h = rw (laws.counted (codes "cycles ") n h) refl
 
-outputs_pass : (none : Bool) (d : ProgramView) (ports : List Port) → AllByRecursion HasPortLine ports → (left : Bool) × Passes (ports_read none d) (ports_text (codes "output ") ports) (ports_read left (record d { outputs = d.outputs ++ ports }))
-outputs_pass none d [] h = (none, subst (λ (ps : List Port). Passes (ports_read none d) [] (ports_read none (record d { outputs = ps }))) (sym (append-nil d.outputs)) (passes_nil (ports_read none d)))
-outputs_pass none d (port ∷ ports) h =
-    let e = record d { outputs = d.outputs ++ port ∷ [] } in
-    let first : Passes (ports_read none d) (port_text (codes "output ") port) (ports_read false e) = line_passes (ports_read none d) (ports_read false e) (port_line (codes "output ") port) (ports_before_end none d) (lacks-port (codes "output ") port refl h.0) (output_right none d port h.0) in
-    let others = outputs_pass false e ports h.1 in
-    let both = passes_both (ports_read none d) (ports_read false e) (ports_read others.0 (record d { outputs = (d.outputs ++ port ∷ []) ++ ports })) (port_text (codes "output ") port) (ports_text (codes "output ") ports) first others.1 in
-    (others.0, subst (λ (ps : List Port). Passes (ports_read none d) (ports_text (codes "output ") (port ∷ ports)) (ports_read others.0 (record d { outputs = ps }))) (append_assoc d.outputs (port ∷ []) ports) both)
+  outputs_pass : (none : Bool) (d : ProgramView) (ports : List Port) → AllByRecursion HasPortLine ports → (left : Bool) × Passes (ports_read none d) (ports_text (codes "output ") ports) (ports_read left (record d { outputs = d.outputs ++ ports }))
+  outputs_pass none d [] h = (none, subst (λ (ps : List Port). Passes (ports_read none d) [] (ports_read none (record d { outputs = ps }))) (sym (append-nil d.outputs)) (passes_nil (ports_read none d)))
+  outputs_pass none d (port ∷ ports) h =
+      let e = record d { outputs = d.outputs ++ port ∷ [] } in
+      let first : Passes (ports_read none d) (port_text (codes "output ") port) (ports_read false e) = line_passes (ports_read none d) (ports_read false e) (port_line (codes "output ") port) (ports_before_end none d) (lack.port (codes "output ") port refl h.0) (output_right none d port h.0) in
+      let others = outputs_pass false e ports h.1 in
+      let both = passes_both (ports_read none d) (ports_read false e) (ports_read others.0 (record d { outputs = (d.outputs ++ port ∷ []) ++ ports })) (port_text (codes "output ") port) (ports_text (codes "output ") ports) first others.1 in
+      (others.0, subst (λ (ps : List Port). Passes (ports_read none d) (ports_text (codes "output ") (port ∷ ports)) (ports_read others.0 (record d { outputs = ps }))) (append_assoc d.outputs (port ∷ []) ports) both)
 
-abbrev instrs_read : ℕ → ProgramView → Reading
-instrs_read left d = record { section = section.Instrs left; draft = Some d }
+  abbrev instrs_read : ℕ → ProgramView → Reading
+  instrs_read left d = record { section = section.Instrs left; draft = Some d }
 
-instr_right : (left : ℕ) (d : ProgramView) (i : Instr) → 0 < left → HasLine i → after any_size (instrs_read left d) (instr_text i) ≡ Some (instrs_read (left - 1) (record d { instrs = d.instrs ++ i ∷ [] }))
-instr_right left d i some h = let more : eqb left 0 ≡ false = ne_eqb left 0 (λ e. omega arith) in rw (more, instr_of-text i h) refl
+  instr_right : (left : ℕ) (d : ProgramView) (i : Instr) → 0 < left → HasLine i → after any_size (instrs_read left d) (instr_text i) ≡ Some (instrs_read (left - 1) (record d { instrs = d.instrs ++ i ∷ [] }))
+  instr_right left d i some h = let more : eqb left 0 ≡ false = ne_eqb left 0 (λ e. omega arith) in rw (more, laws.instr i h) refl
 
-instrs_pass : (left : ℕ) (d : ProgramView) (instrs : List Instr) → left ≡ length instrs → AllByRecursion HasLine instrs → Passes (instrs_read left d) (instrs_text instrs) (instrs_read 0 (record d { instrs = d.instrs ++ instrs }))
-instrs_pass left d [] count h = subst (λ (x : List Instr). Passes (instrs_read left d) [] (instrs_read 0 (record d { instrs = x }))) (sym (append-nil d.instrs)) (subst (λ (n : ℕ). Passes (instrs_read left d) [] (instrs_read n d)) count (passes_nil (instrs_read left d)))
-instrs_pass left d (i ∷ instrs) count h =
-    let e = record d { instrs = d.instrs ++ i ∷ [] } in
-    let first : Passes (instrs_read left d) (instr_text i ++ codes "\n") (instrs_read (left - 1) e) = line_passes (instrs_read left d) (instrs_read (left - 1) e) (instr_text i) refl (lacks-instr i h.0) (instr_right left d i (omega arith) h.0) in
-    let others = instrs_pass (left - 1) e instrs (omega arith) h.1 in
-    let both = passes_both (instrs_read left d) (instrs_read (left - 1) e) (instrs_read 0 (record d { instrs = (d.instrs ++ i ∷ []) ++ instrs })) (instr_text i ++ codes "\n") (instrs_text instrs) first others in
-    subst (λ (x : List Instr). Passes (instrs_read left d) (instrs_text (i ∷ instrs)) (instrs_read 0 (record d { instrs = x }))) (append_assoc d.instrs (i ∷ []) instrs) both
+  instrs_pass : (left : ℕ) (d : ProgramView) (instrs : List Instr) → left ≡ length instrs → AllByRecursion HasLine instrs → Passes (instrs_read left d) (instrs_text instrs) (instrs_read 0 (record d { instrs = d.instrs ++ instrs }))
+  instrs_pass left d [] count h = subst (λ (x : List Instr). Passes (instrs_read left d) [] (instrs_read 0 (record d { instrs = x }))) (sym (append-nil d.instrs)) (subst (λ (n : ℕ). Passes (instrs_read left d) [] (instrs_read n d)) count (passes_nil (instrs_read left d)))
+  instrs_pass left d (i ∷ instrs) count h =
+      let e = record d { instrs = d.instrs ++ i ∷ [] } in
+      let first : Passes (instrs_read left d) (instr_text i ++ codes "\n") (instrs_read (left - 1) e) = line_passes (instrs_read left d) (instrs_read (left - 1) e) (instr_text i) refl (lack.instr i h.0) (instr_right left d i (omega arith) h.0) in
+      let others = instrs_pass (left - 1) e instrs (omega arith) h.1 in
+      let both = passes_both (instrs_read left d) (instrs_read (left - 1) e) (instrs_read 0 (record d { instrs = (d.instrs ++ i ∷ []) ++ instrs })) (instr_text i ++ codes "\n") (instrs_text instrs) first others in
+      subst (λ (x : List Instr). Passes (instrs_read left d) (instrs_text (i ∷ instrs)) (instrs_read 0 (record d { instrs = x }))) (append_assoc d.instrs (i ∷ []) instrs) both
 
--- all of a text
-text_passes : (d : ProgramView) → HasText d → Passes start (text_of d) (ended_read d)
-text_passes d h =
-    let d0 = begun d.target d.cells in
-    let d1 = record d0 { inputs = d.inputs } in
-    let d2 = record d1 { outputs = d.outputs } in
-    let outputs = outputs_pass true d1 d.outputs h.outputs in
-    let t1 = head_text d.target d.cells in
-    let t2 = t1 ++ ports_text (codes "input ") d.inputs in
-    let t3 = t2 ++ ports_text (codes "output ") d.outputs in
-    let t4 = t3 ++ counted_text (codes "cycles ") (length d.instrs) in
-    let t5 = t4 ++ instrs_text d.instrs in
-    let p1 : Passes start t1 (inputs_read d0) = head_passes d.target d.cells h.cells in
-    let p2 : Passes start t2 (inputs_read d1) = passes_both start (inputs_read d0) (inputs_read d1) t1 (ports_text (codes "input ") d.inputs) p1 (inputs_pass d0 d.inputs h.inputs) in
-    let p3 : Passes start t3 (ports_read outputs.0 d2) = passes_both start (inputs_read d1) (ports_read outputs.0 d2) t2 (ports_text (codes "output ") d.outputs) p2 outputs.1 in
-    let cycles : Passes (ports_read outputs.0 d2) (counted_text (codes "cycles ") (length d.instrs)) (instrs_read (length d.instrs) d2) =
-    line_passes (ports_read outputs.0 d2) (instrs_read (length d.instrs) d2) (codes "cycles " ++ decimal (length d.instrs)) (ports_before_end outputs.0 d2) (lacks-append 10 (codes "cycles ") (decimal (length d.instrs)) refl (lacks-decimal 10 (length d.instrs) (omega arith) h.cycles)) (cycles_right outputs.0 d2 (length d.instrs) h.cycles) in
-    let p4 : Passes start t4 (instrs_read (length d.instrs) d2) = passes_both start (ports_read outputs.0 d2) (instrs_read (length d.instrs) d2) t3 (counted_text (codes "cycles ") (length d.instrs)) p3 cycles in
-    let p5 : Passes start t5 (instrs_read 0 d) = passes_both start (instrs_read (length d.instrs) d2) (instrs_read 0 d) t4 (instrs_text d.instrs) p4 (instrs_pass (length d.instrs) d2 d.instrs refl h.instrs) in
-    let end : Passes (instrs_read 0 d) (codes "end" ++ codes "\n") (ended_read d) = line_passes (instrs_read 0 d) (ended_read d) (codes "end") refl refl refl in
-    passes_both start (instrs_read 0 d) (ended_read d) t5 (codes "end\n") p5 end
+  -- all of a text
+  text_passes : (d : ProgramView) → HasText d → Passes start (text_of d) (ended_read d)
+  text_passes d h =
+      let d0 = begun d.target d.cells in
+      let d1 = record d0 { inputs = d.inputs } in
+      let d2 = record d1 { outputs = d.outputs } in
+      let outputs = outputs_pass true d1 d.outputs h.outputs in
+      let t1 = head_text d.target d.cells in
+      let t2 = t1 ++ ports_text (codes "input ") d.inputs in
+      let t3 = t2 ++ ports_text (codes "output ") d.outputs in
+      let t4 = t3 ++ counted_text (codes "cycles ") (length d.instrs) in
+      let t5 = t4 ++ instrs_text d.instrs in
+      let p1 : Passes start t1 (inputs_read d0) = head_passes d.target d.cells h.cells in
+      let p2 : Passes start t2 (inputs_read d1) = passes_both start (inputs_read d0) (inputs_read d1) t1 (ports_text (codes "input ") d.inputs) p1 (inputs_pass d0 d.inputs h.inputs) in
+      let p3 : Passes start t3 (ports_read outputs.0 d2) = passes_both start (inputs_read d1) (ports_read outputs.0 d2) t2 (ports_text (codes "output ") d.outputs) p2 outputs.1 in
+      let cycles : Passes (ports_read outputs.0 d2) (counted_text (codes "cycles ") (length d.instrs)) (instrs_read (length d.instrs) d2) =
+      line_passes (ports_read outputs.0 d2) (instrs_read (length d.instrs) d2) (codes "cycles " ++ decimal (length d.instrs)) (ports_before_end outputs.0 d2) (lack.counted (codes "cycles ") (length d.instrs) refl h.cycles) (cycles_right outputs.0 d2 (length d.instrs) h.cycles) in
+      let p4 : Passes start t4 (instrs_read (length d.instrs) d2) = passes_both start (ports_read outputs.0 d2) (instrs_read (length d.instrs) d2) t3 (counted_text (codes "cycles ") (length d.instrs)) p3 cycles in
+      let p5 : Passes start t5 (instrs_read 0 d) = passes_both start (instrs_read (length d.instrs) d2) (instrs_read 0 d) t4 (instrs_text d.instrs) p4 (instrs_pass (length d.instrs) d2 d.instrs refl h.instrs) in
+      let end : Passes (instrs_read 0 d) (codes "end" ++ codes "\n") (ended_read d) = line_passes (instrs_read 0 d) (ended_read d) (codes "end") refl refl refl in
+      passes_both start (instrs_read 0 d) (ended_read d) t5 (codes "end\n") p5 end
 
-pub draft_of-text : (d : ProgramView) → HasText d → draft_of (text_of d) ≡ Ok d
-unfolding draft_of
-draft_of-text d h =
-    let all = (text_passes d h).whole 1 0 [] in
-    ap (λ (t : List ℕ). read_at 1 0 start t) (sym (append-nil (text_of d))) ∙ all.2
+  pub draft_of-text : (d : ProgramView) → HasText d → draft_of (text_of d) ≡ Ok d
+  unfolding draft_of
+  draft_of-text d h =
+      let all = (text_passes d h).whole 1 0 [] in
+      ap (λ (t : List ℕ). read_at 1 0 start t) (sym (append-nil (text_of d))) ∙ all.2
 
--- a text that is cut off
-pub draft_of-cut : (d : ProgramView) (k : ℕ) → HasText d → k < length (text_of d) → draft_of (take k (text_of d)) ≡ Err faults.Truncated
-unfolding draft_of
-draft_of-cut d k h lt = (text_passes d h).cut 1 0 k lt
+  -- a text that is cut off
+  pub draft_of-cut : (d : ProgramView) (k : ℕ) → HasText d → k < length (text_of d) → draft_of (take k (text_of d)) ≡ Err faults.Truncated
+  unfolding draft_of
+  draft_of-cut d k h lt = (text_passes d h).cut 1 0 k lt

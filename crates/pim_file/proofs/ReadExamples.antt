@@ -7,9 +7,9 @@ use Rattle.pim_isa.specs.declared.instr.Operand.TheVariants as operand
 use Rattle.pim_isa.specs.declared.instr.Instr.TheVariants.{Init, Nor, Rm3}
 use Rattle.pim_isa.specs.declared.invalid.Invalid.TheVariants as invalid
 use Rattle.pim_file.specs.declared.fault.FileFault.TheVariants as faults
-use Rattle.pim_file.specs.Fields.{fields, plain_number}
-use Rattle.pim_file.specs.LineForms.{counted_of, port_of}
-use Rattle.pim_file.specs.InstrForms.{not_of, nor_of, rm3_of, instr_of}
+use Rattle.pim_text.specs.Fields.{fields, plain_number}
+use Rattle.pim_text.specs.LineForms.{counted_of, port_of}
+use Rattle.pim_text.specs.InstrForms.{not_of, nor_of, rm3_of, instr_of}
 use Rattle.pim_file.specs.ProgramFile.{draft_of, parse1_of}
 use Rattle.pim_file.specs.Right.{right}
 

@@ -21,15 +21,15 @@ use Rattle.pim_file.specs.declared.fault.FileFault.{FileFault}
 use Rattle.pim_file.specs.declared.fault.FileFault.TheVariants as faults
 use Rattle.pim_file.specs.Sections.{Section}
 use Rattle.pim_file.specs.Sections as section
-use Rattle.pim_file.specs.LineForms.{target_of, counted_of, port_of}
-use Rattle.pim_file.specs.InstrForms.{instr_of}
+use Rattle.pim_text.specs.LineForms.{target_of, counted_of, port_of}
+use Rattle.pim_text.specs.InstrForms.{instr_of}
 use Rattle.pim_io.specs.Readings.{◌>>=◌}
-use Rattle.pim_file.specs.Text.{target_word, nor_text, instr_text}
+use Rattle.pim_text.specs.Text.{target_word, nor_text, instr_text, port_line}
+use Rattle.pim_text.specs.LineLaws.{OneLine}
 use Rattle.pim_file.specs.Reading.{Reading, start, begun, with_input, with_output, with_instr, after_input, after_output, after_cycles, after_outputs, after_inputs, after_end, after_instrs, after_in, after, is_ended}
 use Rattle.pim_file.specs.ProgramFile.{read_from, any_size, draft_of, with_fault, validated, sized, parse1_of}
 use Rattle.pim_file.specs.Right.{is_form, is_cells, is_input, is_output, is_cycles, is_instr, is_end, cycles_and_more, cycles_before, right_in_body, right, is_complete, first_wrong, is_cut_off, wrong_line, is_truncated}
-use Rattle.pim_file.proofs.LineLemmas.{or_is, mapped, target_is, counted_is, port_line, port_is}
-use Rattle.pim_file.proofs.InstrLemmas.{instr_is}
+use Rattle.pim_file.proofs.OptionLemmas.{or_is, mapped}
 use Rattle.pim_file.proofs.OneText.{nothing_follows}
 
 -- the last of the lines
@@ -72,23 +72,24 @@ behind_target : (target : Target) (others : List (List ℕ)) (line : List ℕ) �
 behind_target Magic others line = refl
 behind_target Plim others line = refl
 
-behind_cells : (last line : List ℕ) (others : List (List ℕ)) → Reads (counted_of (codes "cells ") last) → right (last ∷ others) line ≡ (is_input line || (is_output line || is_cycles line))
-behind_cells last line others h =
-    let spelled = counted_is (codes "cells ") last h.0 h.1 in
-    let known : is_some (counted_of (codes "cells ") (codes "cells " ++ decimal h.0)) ≡ true = ap (λ (l : List ℕ). is_some (counted_of (codes "cells ") l)) (sym spelled.0) ∙ reads_some (counted_of (codes "cells ") last) h in
-    ap (λ (l : List ℕ). right (l ∷ others) line) spelled.0 ∙ rw known refl
+module _ (laws : OneLine) where
+  behind_cells : (last line : List ℕ) (others : List (List ℕ)) → Reads (counted_of (codes "cells ") last) → right (last ∷ others) line ≡ (is_input line || (is_output line || is_cycles line))
+  behind_cells last line others h =
+      let spelled = laws.counted (codes "cells ") last h.0 h.1 in
+      let known : is_some (counted_of (codes "cells ") (codes "cells " ++ decimal h.0)) ≡ true = ap (λ (l : List ℕ). is_some (counted_of (codes "cells ") l)) (sym spelled.0) ∙ reads_some (counted_of (codes "cells ") last) h in
+      ap (λ (l : List ℕ). right (l ∷ others) line) spelled.0 ∙ rw known refl
 
-behind_input : (last line : List ℕ) (others : List (List ℕ)) → Reads (port_of (codes "input ") last) → right (last ∷ others) line ≡ (is_input line || (is_output line || is_cycles line))
-behind_input last line others h =
-    let spelled = port_is (codes "input ") last h.0 h.1 in
-    let known : is_some (port_of (codes "input ") (port_line (codes "input ") h.0)) ≡ true = ap (λ (l : List ℕ). is_some (port_of (codes "input ") l)) (sym spelled.0) ∙ reads_some (port_of (codes "input ") last) h in
-    ap (λ (l : List ℕ). right (l ∷ others) line) spelled.0 ∙ rw known refl
+  behind_input : (last line : List ℕ) (others : List (List ℕ)) → Reads (port_of (codes "input ") last) → right (last ∷ others) line ≡ (is_input line || (is_output line || is_cycles line))
+  behind_input last line others h =
+      let spelled = laws.port (codes "input ") last h.0 h.1 in
+      let known : is_some (port_of (codes "input ") (port_line (codes "input ") h.0)) ≡ true = ap (λ (l : List ℕ). is_some (port_of (codes "input ") l)) (sym spelled.0) ∙ reads_some (port_of (codes "input ") last) h in
+      ap (λ (l : List ℕ). right (l ∷ others) line) spelled.0 ∙ rw known refl
 
-behind_output : (last line : List ℕ) (others : List (List ℕ)) → Reads (port_of (codes "output ") last) → right (last ∷ others) line ≡ (is_output line || is_cycles line)
-behind_output last line others h =
-    let spelled = port_is (codes "output ") last h.0 h.1 in
-    let known : is_some (port_of (codes "output ") (port_line (codes "output ") h.0)) ≡ true = ap (λ (l : List ℕ). is_some (port_of (codes "output ") l)) (sym spelled.0) ∙ reads_some (port_of (codes "output ") last) h in
-    ap (λ (l : List ℕ). right (l ∷ others) line) spelled.0 ∙ rw known refl
+  behind_output : (last line : List ℕ) (others : List (List ℕ)) → Reads (port_of (codes "output ") last) → right (last ∷ others) line ≡ (is_output line || is_cycles line)
+  behind_output last line others h =
+      let spelled = laws.port (codes "output ") last h.0 h.1 in
+      let known : is_some (port_of (codes "output ") (port_line (codes "output ") h.0)) ≡ true = ap (λ (l : List ℕ). is_some (port_of (codes "output ") l)) (sym spelled.0) ∙ reads_some (port_of (codes "output ") last) h in
+      ap (λ (l : List ℕ). right (l ∷ others) line) spelled.0 ∙ rw known refl
 
 -- a line of the body is no line of another kind
 
@@ -103,13 +104,14 @@ instr_is_body (Init cells) others line = refl
 instr_is_body (Nor t ins) others line = nor_is_body t ins others line
 instr_is_body (Rm3 p q z) others line = refl
 
-behind_body : (last line : List ℕ) (others : List (List ℕ)) → (Reads (counted_of (codes "cycles ") last) ⊎ Reads (instr_of last)) → right (last ∷ others) line ≡ right_in_body (cycles_before (last ∷ others)) line
-behind_body last line others (inl h) =
-    let spelled = counted_is (codes "cycles ") last h.0 h.1 in
-    subst (λ (l : List ℕ). right (l ∷ others) line ≡ right_in_body (cycles_before (l ∷ others)) line) (sym spelled.0) refl
-behind_body last line others (inr h) =
-    let spelled = instr_is last h.0 h.1 in
-    subst (λ (l : List ℕ). right (l ∷ others) line ≡ right_in_body (cycles_before (l ∷ others)) line) (sym spelled.0) (instr_is_body h.0 others line)
+module _ (laws : OneLine) where
+  behind_body : (last line : List ℕ) (others : List (List ℕ)) → (Reads (counted_of (codes "cycles ") last) ⊎ Reads (instr_of last)) → right (last ∷ others) line ≡ right_in_body (cycles_before (last ∷ others)) line
+  behind_body last line others (inl h) =
+      let spelled = laws.counted (codes "cycles ") last h.0 h.1 in
+      subst (λ (l : List ℕ). right (l ∷ others) line ≡ right_in_body (cycles_before (l ∷ others)) line) (sym spelled.0) refl
+  behind_body last line others (inr h) =
+      let spelled = laws.instr last h.0 h.1 in
+      subst (λ (l : List ℕ). right (l ∷ others) line ≡ right_in_body (cycles_before (l ∷ others)) line) (sym spelled.0) (instr_is_body h.0 others line)
 
 -- an instruction doesn't say the number of cycles, and isn't the end
 
@@ -172,25 +174,26 @@ over_body k line =
 end_is_body : (others : List (List ℕ)) (line : List ℕ) → right (codes "end" ∷ others) line ≡ right_in_body (cycles_before (codes "end" ∷ others)) line
 end_is_body others line = refl
 
-right_is : (s : Section) (before : List (List ℕ)) (o : Option ProgramView) (line : List ℕ) → Behind s before → is_some (after_in any_size s o line) ≡ right before line
-right_is section.Form before o line h = some-cond (is_form line) (record { section = section.Target; draft = o }) ∙ ap (λ (b : List (List ℕ)). right b line) (sym h)
-right_is section.Target [] o line h = absurd h
-right_is section.Target (last ∷ others) o line h =
-    some-map (λ (t : Target). let r : Reading = record { section = section.Cells t; draft = o } in r) (target_of line) ∙ ap (λ (l : List ℕ). right (l ∷ others) line) (sym h)
-right_is (section.Cells target) [] o line h = absurd h
-right_is (section.Cells target) (last ∷ others) o line h =
-    some-map (λ (n : ℕ). let r : Reading = record { section = section.Inputs; draft = any_size (begun target n) } in r) (counted_of (codes "cells ") line) ∙ sym (behind_target target others line) ∙ ap (λ (l : List ℕ). right (l ∷ others) line) (sym h)
-right_is section.Inputs [] o line h = absurd h
-right_is section.Inputs (last ∷ others) o line (inl cells) = right_inputs o line ∙ sym (behind_cells last line others cells)
-right_is section.Inputs (last ∷ others) o line (inr input) = right_inputs o line ∙ sym (behind_input last line others input)
-right_is section.Outputs [] o line h = absurd h
-right_is section.Outputs (last ∷ others) o line h = right_outputs o line ∙ sym (behind_output last line others h)
-right_is (section.Instrs left) [] o line h = absurd h.4
-right_is (section.Instrs left) (last ∷ others) o line h =
-    right_body left h.0 h.1 o line h.3 ∙ ap (λ (c : Option (ℕ × ℕ)). right_in_body c line) (sym h.2) ∙ sym (behind_body last line others h.4)
-right_is section.Ended [] o line h = absurd h.2
-right_is section.Ended (last ∷ others) o line h =
-    sym (over_body h.0 line) ∙ ap (λ (c : Option (ℕ × ℕ)). right_in_body c line) (sym h.1) ∙ subst (λ (l : List ℕ). right_in_body (cycles_before (l ∷ others)) line ≡ right (l ∷ others) line) (sym h.2) (sym (end_is_body others line))
+module _ (laws : OneLine) where
+  right_is : (s : Section) (before : List (List ℕ)) (o : Option ProgramView) (line : List ℕ) → Behind s before → is_some (after_in any_size s o line) ≡ right before line
+  right_is section.Form before o line h = some-cond (is_form line) (record { section = section.Target; draft = o }) ∙ ap (λ (b : List (List ℕ)). right b line) (sym h)
+  right_is section.Target [] o line h = absurd h
+  right_is section.Target (last ∷ others) o line h =
+      some-map (λ (t : Target). let r : Reading = record { section = section.Cells t; draft = o } in r) (target_of line) ∙ ap (λ (l : List ℕ). right (l ∷ others) line) (sym h)
+  right_is (section.Cells target) [] o line h = absurd h
+  right_is (section.Cells target) (last ∷ others) o line h =
+      some-map (λ (n : ℕ). let r : Reading = record { section = section.Inputs; draft = any_size (begun target n) } in r) (counted_of (codes "cells ") line) ∙ sym (behind_target target others line) ∙ ap (λ (l : List ℕ). right (l ∷ others) line) (sym h)
+  right_is section.Inputs [] o line h = absurd h
+  right_is section.Inputs (last ∷ others) o line (inl cells) = right_inputs o line ∙ sym (behind_cells laws last line others cells)
+  right_is section.Inputs (last ∷ others) o line (inr input) = right_inputs o line ∙ sym (behind_input laws last line others input)
+  right_is section.Outputs [] o line h = absurd h
+  right_is section.Outputs (last ∷ others) o line h = right_outputs o line ∙ sym (behind_output laws last line others h)
+  right_is (section.Instrs left) [] o line h = absurd h.4
+  right_is (section.Instrs left) (last ∷ others) o line h =
+      right_body left h.0 h.1 o line h.3 ∙ ap (λ (c : Option (ℕ × ℕ)). right_in_body c line) (sym h.2) ∙ sym (behind_body laws last line others h.4)
+  right_is section.Ended [] o line h = absurd h.2
+  right_is section.Ended (last ∷ others) o line h =
+      sym (over_body h.0 line) ∙ ap (λ (c : Option (ℕ × ℕ)). right_in_body c line) (sym h.1) ∙ subst (λ (l : List ℕ). right_in_body (cycles_before (l ∷ others)) line ≡ right (l ∷ others) line) (sym h.2) (sym (end_is_body others line))
 
 -- where a reading stands behind one more line
 
@@ -227,41 +230,42 @@ inputs_follow o before line next e =
       | inr outputs ↦ outputs_follow o before line next outputs
     ]
 
-body_follows : (left k m : ℕ) (o : Option ProgramView) (before : List (List ℕ)) (line : List ℕ) (next : Reading) → cycles_before before ≡ Some (k, m) → m + left ≡ k → after_instrs left o line ≡ Some next → Follows next line before
-body_follows left k m o before line next c sum e = by_left (eqb left 0) refl e
-  where
-    by_left : (t : Bool) → eqb left 0 ≡ t → cond t (after_end o line) (option_map (λ i. record { section = section.Instrs (left - 1); draft = with_instr o i }) (instr_of line)) ≡ Some next → Follows next line before
-    by_left true z e =
-        let none : left ≡ 0 = eqb-true left 0 z in
-        let made : Reading = record { section = section.Ended; draft = o } in
-        let tests = cond_some (is_end line) made next e in
-        let line_is : line ≡ codes "end" = (bytes_eq-Decides line (codes "end")).0 tests.0 in
-        let all : m ≡ k = omega arith in
-        let counted : cycles_before (line ∷ before) ≡ Some (k, k + 1) = ap (λ (l : List ℕ). cycles_before (l ∷ before)) line_is ∙ ap (λ (x : Option (ℕ × ℕ)). option_map (λ c. (c.0, c.1 + 1)) x) c ∙ ap (λ (n : ℕ). let x : Option (ℕ × ℕ) = Some (k, n + 1) in x) all in
-        subst (λ (n : Reading). Follows n line before) tests.1 (k, counted, line_is)
-    by_left false z e =
-        let some : left ≡ 0 → ⊥ = eqb-false left 0 z in
-        let mp = mapped (λ (i : Instr). let r : Reading = record { section = section.Instrs (left - 1); draft = with_instr o i } in r) (instr_of line) next e in
-        let spelled = instr_is line mp.0 mp.1 in
-        let no_cycles : counted_of (codes "cycles ") line ≡ None = ap (λ (l : List ℕ). counted_of (codes "cycles ") l) spelled.0 ∙ instr_no_cycles mp.0 in
-        let counted : cycles_before (line ∷ before) ≡ Some (k, m + 1) = ap (λ (x : Option ℕ). cycles_and_more x (cycles_before before)) no_cycles ∙ ap (λ (x : Option (ℕ × ℕ)). option_map (λ c. (c.0, c.1 + 1)) x) c in
-        subst (λ (n : Reading). Follows n line before) mp.2 (k, m + 1, counted, omega arith, inr (mp.0, mp.1))
+module _ (laws : OneLine) where
+  body_follows : (left k m : ℕ) (o : Option ProgramView) (before : List (List ℕ)) (line : List ℕ) (next : Reading) → cycles_before before ≡ Some (k, m) → m + left ≡ k → after_instrs left o line ≡ Some next → Follows next line before
+  body_follows left k m o before line next c sum e = by_left (eqb left 0) refl e
+    where
+      by_left : (t : Bool) → eqb left 0 ≡ t → cond t (after_end o line) (option_map (λ i. record { section = section.Instrs (left - 1); draft = with_instr o i }) (instr_of line)) ≡ Some next → Follows next line before
+      by_left true z e =
+          let none : left ≡ 0 = eqb-true left 0 z in
+          let made : Reading = record { section = section.Ended; draft = o } in
+          let tests = cond_some (is_end line) made next e in
+          let line_is : line ≡ codes "end" = (bytes_eq-Decides line (codes "end")).0 tests.0 in
+          let all : m ≡ k = omega arith in
+          let counted : cycles_before (line ∷ before) ≡ Some (k, k + 1) = ap (λ (l : List ℕ). cycles_before (l ∷ before)) line_is ∙ ap (λ (x : Option (ℕ × ℕ)). option_map (λ c. (c.0, c.1 + 1)) x) c ∙ ap (λ (n : ℕ). let x : Option (ℕ × ℕ) = Some (k, n + 1) in x) all in
+          subst (λ (n : Reading). Follows n line before) tests.1 (k, counted, line_is)
+      by_left false z e =
+          let some : left ≡ 0 → ⊥ = eqb-false left 0 z in
+          let mp = mapped (λ (i : Instr). let r : Reading = record { section = section.Instrs (left - 1); draft = with_instr o i } in r) (instr_of line) next e in
+          let spelled = laws.instr line mp.0 mp.1 in
+          let no_cycles : counted_of (codes "cycles ") line ≡ None = ap (λ (l : List ℕ). counted_of (codes "cycles ") l) spelled.0 ∙ instr_no_cycles mp.0 in
+          let counted : cycles_before (line ∷ before) ≡ Some (k, m + 1) = ap (λ (x : Option ℕ). cycles_and_more x (cycles_before before)) no_cycles ∙ ap (λ (x : Option (ℕ × ℕ)). option_map (λ c. (c.0, c.1 + 1)) x) c in
+          subst (λ (n : Reading). Follows n line before) mp.2 (k, m + 1, counted, omega arith, inr (mp.0, mp.1))
 
-line_follows : (s : Section) (before : List (List ℕ)) (o : Option ProgramView) (line : List ℕ) (next : Reading) → Behind s before → after_in any_size s o line ≡ Some next → Follows next line before
-line_follows section.Form before o line next h e =
-    let made : Reading = record { section = section.Target; draft = o } in
-    let tests = cond_some (is_form line) made next e in
-    subst (λ (n : Reading). Follows n line before) tests.1 ((bytes_eq-Decides line (codes "pim 1")).0 tests.0)
-line_follows section.Target before o line next h e =
-    let m = mapped (λ (t : Target). let r : Reading = record { section = section.Cells t; draft = o } in r) (target_of line) next e in
-    subst (λ (n : Reading). Follows n line before) m.2 (target_is line m.0 m.1)
-line_follows (section.Cells target) before o line next h e =
-    let m = mapped (λ (n : ℕ). let r : Reading = record { section = section.Inputs; draft = any_size (begun target n) } in r) (counted_of (codes "cells ") line) next e in
-    subst (λ (n : Reading). Follows n line before) m.2 (inl (m.0, m.1))
-line_follows section.Inputs before o line next h e = inputs_follow o before line next e
-line_follows section.Outputs before o line next h e = outputs_follow o before line next e
-line_follows (section.Instrs left) before o line next h e = body_follows left h.0 h.1 o before line next h.2 h.3 e
-line_follows section.Ended before o line next h e = absurd cc
+  line_follows : (s : Section) (before : List (List ℕ)) (o : Option ProgramView) (line : List ℕ) (next : Reading) → Behind s before → after_in any_size s o line ≡ Some next → Follows next line before
+  line_follows section.Form before o line next h e =
+      let made : Reading = record { section = section.Target; draft = o } in
+      let tests = cond_some (is_form line) made next e in
+      subst (λ (n : Reading). Follows n line before) tests.1 ((bytes_eq-Decides line (codes "pim 1")).0 tests.0)
+  line_follows section.Target before o line next h e =
+      let m = mapped (λ (t : Target). let r : Reading = record { section = section.Cells t; draft = o } in r) (target_of line) next e in
+      subst (λ (n : Reading). Follows n line before) m.2 (laws.target line m.0 m.1)
+  line_follows (section.Cells target) before o line next h e =
+      let m = mapped (λ (n : ℕ). let r : Reading = record { section = section.Inputs; draft = any_size (begun target n) } in r) (counted_of (codes "cells ") line) next e in
+      subst (λ (n : Reading). Follows n line before) m.2 (inl (m.0, m.1))
+  line_follows section.Inputs before o line next h e = inputs_follow o before line next e
+  line_follows section.Outputs before o line next h e = outputs_follow o before line next e
+  line_follows (section.Instrs left) before o line next h e = body_follows left h.0 h.1 o before line next h.2 h.3 e
+  line_follows section.Ended before o line next h e = absurd cc
 
 -- `end` is the last line exactly where a reading has ended
 
@@ -273,23 +277,24 @@ target_no_end : (target : Target) → is_end (codes "target " ++ target_word tar
 target_no_end Magic = refl
 target_no_end Plim = refl
 
-ended_is : (s : Section) (before : List (List ℕ)) → Behind s before → is_ended s ≡ is_complete before
-ended_is section.Form before h = ap is_complete (sym h)
-ended_is section.Target before h = sym (last_is (λ l. l ≡ codes "pim 1") before h (λ last e. ap is_end e))
-ended_is (section.Cells target) before h = sym (last_is (λ l. l ≡ codes "target " ++ target_word target) before h (λ last e. ap is_end e ∙ target_no_end target))
-ended_is section.Inputs before h = sym (last_is (λ l. Reads (counted_of (codes "cells ") l) ⊎ Reads (port_of (codes "input ") l)) before h ports)
-  where
-    ports : (last : List ℕ) → (Reads (counted_of (codes "cells ") last) ⊎ Reads (port_of (codes "input ") last)) → is_end last ≡ false
-    ports last (inl cells) = ap is_end (counted_is (codes "cells ") last cells.0 cells.1).0
-    ports last (inr input) = ap is_end (port_is (codes "input ") last input.0 input.1).0
-ended_is section.Outputs before h = sym (last_is (λ l. Reads (port_of (codes "output ") l)) before h (λ last output. ap is_end (port_is (codes "output ") last output.0 output.1).0))
-ended_is (section.Instrs left) before h = sym (last_is (λ l. Reads (counted_of (codes "cycles ") l) ⊎ Reads (instr_of l)) before h.4 body)
-  where
-    body : (last : List ℕ) → (Reads (counted_of (codes "cycles ") last) ⊎ Reads (instr_of last)) → is_end last ≡ false
-    body last (inl cycles) = ap is_end (counted_is (codes "cycles ") last cycles.0 cycles.1).0
-    body last (inr i) = ap is_end (instr_is last i.0 i.1).0 ∙ instr_no_end i.0
-ended_is section.Ended [] h = absurd h.2
-ended_is section.Ended (last ∷ others) h = sym (ap is_end h.2)
+module _ (laws : OneLine) where
+  ended_is : (s : Section) (before : List (List ℕ)) → Behind s before → is_ended s ≡ is_complete before
+  ended_is section.Form before h = ap is_complete (sym h)
+  ended_is section.Target before h = sym (last_is (λ l. l ≡ codes "pim 1") before h (λ last e. ap is_end e))
+  ended_is (section.Cells target) before h = sym (last_is (λ l. l ≡ codes "target " ++ target_word target) before h (λ last e. ap is_end e ∙ target_no_end target))
+  ended_is section.Inputs before h = sym (last_is (λ l. Reads (counted_of (codes "cells ") l) ⊎ Reads (port_of (codes "input ") l)) before h ports)
+    where
+      ports : (last : List ℕ) → (Reads (counted_of (codes "cells ") last) ⊎ Reads (port_of (codes "input ") last)) → is_end last ≡ false
+      ports last (inl cells) = ap is_end (laws.counted (codes "cells ") last cells.0 cells.1).0
+      ports last (inr input) = ap is_end (laws.port (codes "input ") last input.0 input.1).0
+  ended_is section.Outputs before h = sym (last_is (λ l. Reads (port_of (codes "output ") l)) before h (λ last output. ap is_end (laws.port (codes "output ") last output.0 output.1).0))
+  ended_is (section.Instrs left) before h = sym (last_is (λ l. Reads (counted_of (codes "cycles ") l) ⊎ Reads (instr_of l)) before h.4 body)
+    where
+      body : (last : List ℕ) → (Reads (counted_of (codes "cycles ") last) ⊎ Reads (instr_of last)) → is_end last ≡ false
+      body last (inl cycles) = ap is_end (laws.counted (codes "cycles ") last cycles.0 cycles.1).0
+      body last (inr i) = ap is_end (laws.instr last i.0 i.1).0 ∙ instr_no_end i.0
+  ended_is section.Ended [] h = absurd h.2
+  ended_is section.Ended (last ∷ others) h = sym (ap is_end h.2)
 
 -- one line of a reading, and the lines behind it
 
@@ -320,19 +325,20 @@ module _ (number : ℕ) (others : Reading → Result ProgramView FileFault) wher
   one_cut false true right_there complete (Some next) rest p q h f = let none = h refl in absurd cc
   one_cut false false right_there complete x rest p q h f = rw (← q) refl
 
-lines_wrong : (r : Reading) (before : List (List ℕ)) (ls : List LineView) → Behind r.section before → wrong_line (read_from any_size r ls) ≡ first_wrong before ls
-lines_wrong r before [] h = done_line (is_ended r.section) r.draft
-lines_wrong r before (line ∷ others) h =
-    one_line line.number (λ next. read_from any_size next others) line.ended (is_ended r.section) (right before line.text) (is_complete before) (after any_size r line.text) (first_wrong (line.text ∷ before) others)
-    (right_is r.section before r.draft line.text h) (ended_is r.section before h) (nothing_follows r.section r.draft line.text)
-    (λ next e. lines_wrong next (line.text ∷ before) others (line_follows r.section before r.draft line.text next h e))
+module _ (laws : OneLine) where
+  lines_wrong : (r : Reading) (before : List (List ℕ)) (ls : List LineView) → Behind r.section before → wrong_line (read_from any_size r ls) ≡ first_wrong before ls
+  lines_wrong r before [] h = done_line (is_ended r.section) r.draft
+  lines_wrong r before (line ∷ others) h =
+      one_line line.number (λ next. read_from any_size next others) line.ended (is_ended r.section) (right before line.text) (is_complete before) (after any_size r line.text) (first_wrong (line.text ∷ before) others)
+      (right_is laws r.section before r.draft line.text h) (ended_is laws r.section before h) (nothing_follows r.section r.draft line.text)
+      (λ next e. lines_wrong next (line.text ∷ before) others (line_follows laws r.section before r.draft line.text next h e))
 
-lines_cut : (r : Reading) (before : List (List ℕ)) (ls : List LineView) → Behind r.section before → is_truncated (read_from any_size r ls) ≡ is_cut_off before ls
-lines_cut r before [] h = done_cut (is_ended r.section) r.draft ∙ ap not (ended_is r.section before h)
-lines_cut r before (line ∷ others) h =
-    one_cut line.number (λ next. read_from any_size next others) line.ended (is_ended r.section) (right before line.text) (is_complete before) (after any_size r line.text) (is_cut_off (line.text ∷ before) others)
-    (right_is r.section before r.draft line.text h) (ended_is r.section before h) (nothing_follows r.section r.draft line.text)
-    (λ next e. lines_cut next (line.text ∷ before) others (line_follows r.section before r.draft line.text next h e))
+  lines_cut : (r : Reading) (before : List (List ℕ)) (ls : List LineView) → Behind r.section before → is_truncated (read_from any_size r ls) ≡ is_cut_off before ls
+  lines_cut r before [] h = done_cut (is_ended r.section) r.draft ∙ ap not (ended_is laws r.section before h)
+  lines_cut r before (line ∷ others) h =
+      one_cut line.number (λ next. read_from any_size next others) line.ended (is_ended r.section) (right before line.text) (is_complete before) (after any_size r line.text) (is_cut_off (line.text ∷ before) others)
+      (right_is laws r.section before r.draft line.text h) (ended_is laws r.section before h) (nothing_follows r.section r.draft line.text)
+      (λ next e. lines_cut next (line.text ∷ before) others (line_follows laws r.section before r.draft line.text next h e))
 
 -- judging a draft finds no wrong line
 
@@ -360,10 +366,11 @@ judged_cut : (reading : Result ProgramView FileFault) → is_truncated (reading 
 judged_cut (Ok d) = later_cut d (ltb MAX_CELLS d.cells)
 judged_cut (Err fault) = refl
 
-pub wrong_line-parse1_of : (bytes : List ℕ) → wrong_line (parse1_of bytes) ≡ first_wrong [] (lines bytes)
-unfolding parse1_of draft_of
-wrong_line-parse1_of bytes = judged_line (read_from any_size start (lines bytes)) ∙ lines_wrong start [] (lines bytes) refl
+module _ (laws : OneLine) where
+  pub wrong_line-parse1_of : (bytes : List ℕ) → wrong_line (parse1_of bytes) ≡ first_wrong [] (lines bytes)
+  unfolding parse1_of draft_of
+  wrong_line-parse1_of bytes = judged_line (read_from any_size start (lines bytes)) ∙ lines_wrong laws start [] (lines bytes) refl
 
-pub is_truncated-parse1_of : (bytes : List ℕ) → is_truncated (parse1_of bytes) ≡ is_cut_off [] (lines bytes)
-unfolding parse1_of draft_of
-is_truncated-parse1_of bytes = judged_cut (read_from any_size start (lines bytes)) ∙ lines_cut start [] (lines bytes) refl
+  pub is_truncated-parse1_of : (bytes : List ℕ) → is_truncated (parse1_of bytes) ≡ is_cut_off [] (lines bytes)
+  unfolding parse1_of draft_of
+  is_truncated-parse1_of bytes = judged_cut (read_from any_size start (lines bytes)) ∙ lines_cut laws start [] (lines bytes) refl

@@ -1,10 +1,11 @@
 pub mod Text
 pub mod Spelled
-pub mod Fields
-pub mod LineForms
-pub mod InstrForms
 pub mod Sections
 pub mod Reading
 pub mod ProgramFile
 pub mod Right
+pub mod Items
+pub mod BinaryReading
+pub mod Binary
+pub mod BinarySpelled
 pub mod inner

@@ -12,8 +12,8 @@ use Rattle.pim_file.specs.declared.fault.FileFault.{FileFault}
 use Rattle.pim_file.specs.declared.fault.FileFault.TheVariants as faults
 use Rattle.pim_file.specs.Sections.{Section}
 use Rattle.pim_file.specs.Sections as section
-use Rattle.pim_file.specs.LineForms.{target_of, counted_of, port_of}
-use Rattle.pim_file.specs.InstrForms.{instr_of}
+use Rattle.pim_text.specs.LineForms.{target_of, counted_of, port_of}
+use Rattle.pim_text.specs.InstrForms.{instr_of}
 
 -- how far a file is read: which lines may come next, and the draft, which begins once the number of cells is told
 pub record Reading : Type 0 where

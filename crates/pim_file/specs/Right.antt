@@ -6,8 +6,8 @@ use Rattle.pim_io.specs.Lines.{LineView}
 use Rattle.pim_isa.specs.Programs.{ProgramView}
 use Rattle.pim_file.specs.declared.fault.FileFault.{FileFault}
 use Rattle.pim_file.specs.declared.fault.FileFault.TheVariants as faults
-use Rattle.pim_file.specs.LineForms.{target_of, counted_of, port_of}
-use Rattle.pim_file.specs.InstrForms.{instr_of}
+use Rattle.pim_text.specs.LineForms.{target_of, counted_of, port_of}
+use Rattle.pim_text.specs.InstrForms.{instr_of}
 
 -- the first line
 abbrev pub is_form : List ℕ → Bool
@@ -92,6 +92,7 @@ wrong_line (Err (faults.Line n)) = Some n
 wrong_line (Err (faults.Invalid invalid)) = None
 wrong_line (Err faults.TooLarge) = None
 wrong_line (Err faults.Truncated) = None
+wrong_line (Err (faults.Byte place)) = None
 wrong_line (Err faults.NoMemory) = None
 
 -- a reading ends too early
@@ -101,4 +102,5 @@ is_truncated (Err (faults.Line n)) = false
 is_truncated (Err (faults.Invalid invalid)) = false
 is_truncated (Err faults.TooLarge) = false
 is_truncated (Err faults.Truncated) = true
+is_truncated (Err (faults.Byte place)) = false
 is_truncated (Err faults.NoMemory) = false

@@ -1,5 +1,4 @@
 -- Definitions that only private functions and the keeping of a type cite.
-pub mod FieldWalks
-pub mod PortLines
 pub mod Kept
 pub mod Places
+pub mod BinaryKept

@@ -5,7 +5,7 @@ use pim_io::NoMemory;
 use pim_isa::Invalid;
 use thiserror::Error;
 
-/// Why bytes are no program file. Lines are counted from 1.
+/// Why bytes are no program file. Lines are counted from 1, bytes from 0.
 #[derive(Clone, Copy, Debug, PartialEq, Eq, Error)]
 pub enum FileFault {
     /// This line is the first that may not stand where it stands, or is not spelled as it is to be.
@@ -17,9 +17,12 @@ pub enum FileFault {
     /// The program has more than `MAX_CELLS` cells.
     #[error("there are too many cells")]
     TooLarge,
-    /// The bytes end before the line `end`.
+    /// The bytes end before the line `end`, or before or inside an item of the binary form.
     #[error("the bytes end too early")]
     Truncated,
+    /// In the binary form, the item whose last byte stands at this place, from 0, is wrong.
+    #[error("a byte is wrong")]
+    Byte(u32),
     /// There was no memory.
     #[error("no memory")]
     NoMemory,

@@ -1,14 +1,14 @@
 ghost use Rattle.std.specs.Prelude.{◌≡◌, Some, None, OnOk};
 ghost use Rattle.std.specs.Option.{ok_or};
-ghost use Rattle.pim_io.specs.Names.{IsLabel};
-ghost use Rattle.pim_file.specs.inner.PortLines.{port_view};
+ghost use Rattle.pim_io.specs.Names.{IsLabel, label as label_of};
+ghost use Rattle.pim_text.specs.PortLines.{port_view};
 ghost use Rattle.pim_file.specs.Reading.{begun, with_input, with_output, with_instr};
 ghost use Rattle.pim_file.specs.inner.Kept.{within_limit};
 
 use crate::fault::FileFault;
-use crate::lines::PortLine;
 use pim_io::NoMemory;
 use pim_isa::{Instr, MAX_CELLS, ProgramDraft, Target};
+use pim_text::PortLine;
 use std::alloc::Global;
 use std::marker::Model;
 
@@ -49,9 +49,9 @@ impl Kept {
     }
 
     /// Adds an input.
-    #[tactic(auto, using(crate::proofs::LabelLemmas::label_same))]
     pub(crate) fn add_input(&mut self, port: PortLine) -> Result<(), NoMemory>
-        requires { IsLabel port.label.now }
+        requires label { IsLabel port.label.now }
+        requires same { label_of port.label.now ≡ port.label.now }
         ensures { OnOk result (self.new ≡ with_input self.old (port_view port.entry)) }
     {
         match &mut self.draft {
@@ -61,9 +61,9 @@ impl Kept {
     }
 
     /// Adds an output.
-    #[tactic(auto, using(crate::proofs::LabelLemmas::label_same))]
     pub(crate) fn add_output(&mut self, port: PortLine) -> Result<(), NoMemory>
-        requires { IsLabel port.label.now }
+        requires label { IsLabel port.label.now }
+        requires same { label_of port.label.now ≡ port.label.now }
         ensures { OnOk result (self.new ≡ with_output self.old (port_view port.entry)) }
     {
         match &mut self.draft {

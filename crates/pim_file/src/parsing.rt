@@ -1,4 +1,4 @@
-ghost use Rattle.std.specs.Prelude.{◌≡◌, ◌≤◌, ◌↔◌, [], length, Ok, IfOk};
+ghost use Rattle.std.specs.Prelude.{◌≡◌, ◌≤◌, ◌↔◌, ◌⊎◌, [], length, Ok, IfOk};
 ghost use Rattle.pim_io.specs.Lines.{lines};
 ghost use Rattle.pim_isa.specs.Programs.{ProgramView};
 ghost use Rattle.pim_file.specs.Spelled.{HasText};
@@ -8,12 +8,16 @@ ghost use Rattle.pim_file.specs.Text.{text as text_of};
 ghost use Rattle.pim_file.specs.Reading.{start};
 ghost use Rattle.pim_file.specs.Right.{first_wrong, is_cut_off, wrong_line, is_truncated};
 ghost use Rattle.pim_file.specs.ProgramFile.{read_from, draft_of, parse1_of};
+ghost use Rattle.pim_file.specs.Binary.{bin};
+ghost use Rattle.pim_file.specs.BinaryReading.{parse_of};
 ghost use Rattle.pim_file.specs.inner.Kept.{within_limit, program_within_limit};
 
+use crate::binary::{has_tag, parse_binary};
 use crate::fault::FileFault;
 use crate::reader::Reader;
 use pim_io::{MAX_PROGRAM, Scan};
 use pim_isa::{Program, ProgramDraft};
+use pim_text::line_laws;
 use std::alloc::Global;
 
 /// The program that a text is of, or the first fault: the first line that may not stand where it stands, else that the
@@ -32,18 +36,24 @@ pub fn parse_text(alloc: Global, bytes: &[u8]) -> Result<Program, FileFault>
     // No other bytes are read as this program.
     ensures spelled { IfOk result (λ program. bytes.now ≡ text_of program) }
 {
+    line_laws();
     validated(alloc, bytes)
 }
 
-/// The program that a program file holds, as `parse_text` gives it.
+/// The program of a file in either form, or its first fault. The five bytes `pim2` and a newline choose the binary form, which
+/// is read item by item; all other bytes are read as `parse_text` does. Linear in the bytes.
 pub fn parse(alloc: Global, bytes: &[u8]) -> Result<Program, FileFault>
     requires { length bytes.now ≤ MAX_PROGRAM }
-    ensures exact { Gives FileFault.NoMemory (λ program. program) result (parse1_of bytes.now) }
+    ensures exact { Gives FileFault.NoMemory (λ program. program) result (parse_of bytes.now) }
 
     // No other bytes are read as this program.
-    ensures spelled { IfOk result (λ program. bytes.now ≡ text_of program) }
+    ensures spelled { IfOk result (λ program. (bytes.now ≡ text_of program) ⊎ (bytes.now ≡ bin program)) }
 {
-    parse_text(alloc, bytes)
+    if has_tag(bytes) {
+        parse_binary(alloc, bytes)
+    } else {
+        parse_text(alloc, bytes)
+    }
 }
 
 /// The program of the draft of a program file.
@@ -61,6 +71,7 @@ fn draft(alloc: Global, bytes: &[u8]) -> Result<ProgramDraft, FileFault>
     ensures exact { Gives FileFault.NoMemory (λ draft. draft) result (read_from within_limit start (lines bytes.now)) }
     ensures few { IfOk result HasFewParts }
 {
+    line_laws();
     let mut reader = Reader::new(alloc);
     let mut scan = Scan::new(bytes);
     while let Some(line) = scan.line() {

@@ -2,20 +2,18 @@ ghost use Rattle.std.specs.Prelude.{◌≡◌, Some, None, if◌then◌else◌, 
 ghost use Rattle.std.specs.Bool.{OnFalse};
 ghost use Rattle.pim_io.specs.Lines.{line_view};
 ghost use Rattle.pim_io.specs.Names.{IsLabel};
-ghost use Rattle.pim_file.specs.inner.PortLines.{port_view};
+ghost use Rattle.pim_text.specs.PortLines.{port_view};
 ghost use Rattle.pim_io.specs.Readings.{Gives};
 ghost use Rattle.pim_file.specs.Reading.{start, begun, with_input, with_output, with_instr, after_form, after_target, after_cells, after_input, after_output, after_cycles, after_outputs, after_inputs, after_end, after_instrs, after_in, after, is_ended, line_read};
 ghost use Rattle.pim_file.specs.ProgramFile.{finished};
 ghost use Rattle.pim_file.specs.inner.Kept.{within_limit};
 
 use crate::fault::FileFault;
-use crate::fields::is_text;
-use crate::instrs::instr;
 use crate::kept::Kept;
-use crate::lines::{counted, port, target};
 use crate::section::Section;
 use pim_io::{Line, NoMemory};
 use pim_isa::{ProgramDraft, Target};
+use pim_text::{counted, is_text, line_instr, port, target};
 use std::alloc::Global;
 use std::marker::Model;
 
@@ -193,7 +191,7 @@ impl Reader {
         if left == 0 {
             return Ok(self.end(line));
         }
-        let Some(instr) = instr(self.alloc, line)? else {
+        let Some(instr) = line_instr(self.alloc, line)? else {
             return Ok(false);
         };
         self.section = Section::Instrs(left - 1);

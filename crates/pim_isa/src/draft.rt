@@ -4,11 +4,11 @@ ghost use Rattle.pim_io.specs.Names.{label as label_of};
 ghost use Rattle.pim_isa.specs.Validity.{fault_of};
 ghost use Rattle.pim_isa.specs.Sound.{HasLabel};
 
+use crate::check;
 use crate::instr::Instr;
 use crate::invalid::Invalid;
 use crate::port::Port;
 use crate::target::Target;
-use crate::{check, row};
 use pim_io::{Name, NoMemory};
 use std::alloc::Global;
 use std::marker::Model;
@@ -87,7 +87,7 @@ impl ProgramDraft {
         let place = self.inputs.len();
         self.inputs.push(Port { cell, label })?;
         self.bad_input = first_bad(self.bad_input, &self.marks, self.cells, cell, place);
-        row::write(&mut self.marks, cell, true);
+        mark(&mut self.marks, cell);
         Ok(())
     }
 
@@ -158,9 +158,25 @@ fn first_bad(
 {
     if bad.is_some() {
         bad
-    } else if cell >= cells || row::bit(marks, cell) {
+    } else if cell >= cells || is_marked(marks, cell) {
         Some(place)
     } else {
         None
     }
+}
+
+/// Marks the cell, if there is a mark for it.
+fn mark(marks: &mut Vec<bool>, cell: u32)
+    ensures { marks.new.items ≡ slice_set marks.old.items cell true }
+{
+    if let Some(mark) = marks.get_mut(cell as usize) {
+        *mark = true;
+    }
+}
+
+/// Whether the cell is marked.
+fn is_marked(marks: &[bool], cell: u32) -> bool
+    ensures { result ≡ slice_index_or marks.now cell false }
+{
+    marks.get(cell as usize).copied().unwrap_or(false)
 }

@@ -1,8 +1,9 @@
 ghost use Rattle.std.specs.Prelude.{◌≡◌};
-ghost use Rattle.pim_isa.specs.Touches.{operands, operand_cells, names};
+ghost use Rattle.pim_isa.specs.Touches.{operands, operand_cells, names, writes};
 ghost use Rattle.pim_isa.specs.Validity.{has, leaves, reads_target};
 
 use crate::cells::Cells;
+use std::slice;
 
 /// What an RM3 reads: a constant or a cell.
 #[derive(Clone, Copy, Debug, PartialEq, Eq)]
@@ -83,6 +84,17 @@ impl Ins {
 }
 
 impl Instr {
+    /// The cells that it writes, in order.
+    pub fn writes(&self) -> &[u32]
+        ensures { result.now ≡ writes self.now }
+    {
+        match self {
+            Instr::Init(cells) => cells.list(),
+            Instr::Nor { t, .. } => slice::from_ref(t),
+            Instr::Rm3 { z, .. } => slice::from_ref(z),
+        }
+    }
+
     /// Whether a cell that it names isn't below `cells`.
     pub(crate) fn leaves(&self, cells: u32) -> bool
         ensures { result ≡ leaves cells (names self.now) }

@@ -22,4 +22,5 @@ pub use invalid::Invalid;
 pub use machine::Machine;
 pub use port::{Port, Ports};
 pub use program::Program;
+pub use row::Row;
 pub use target::{Fill, Target};

@@ -1,11 +1,11 @@
 ghost use Rattle.std.specs.Prelude.{◌≡◌, ◌<◌, ◌≤◌, ◌↔◌, Bool, List, length, slice_get, IsTrue, IsNone, IfOk};
 ghost use Rattle.pim_isa.specs.Steps.{exec_k};
 ghost use Rattle.pim_io.specs.Bits.{bits_of};
-ghost use Rattle.pim_isa.specs.Results.{load, fill_bit, IsLoaded};
+ghost use Rattle.pim_isa.specs.Results.{load, IsLoaded};
 ghost use Rattle.pim_isa.specs.Machines.{next_of};
 
 use crate::program::Program;
-use crate::row;
+use crate::row::Row;
 use crate::target::Fill;
 use pim_io::NoMemory;
 use std::alloc::Global;
@@ -15,7 +15,7 @@ use std::marker::Model;
 #[derive(Debug, Drop)]
 pub struct Machine<'a> {
     program: &'a Program,
-    row: Vec<bool>,
+    row: Row,
     at: u32,
 }
 
@@ -26,9 +26,9 @@ impl<'a> Model for Machine<'a> {
 
     ghost Value = { MachineView };
 
-    ghost view = { λ m. record { program = m.program.now; row = m.row.items; at = m.at } };
+    ghost view = { λ m. record { program = m.program.now; row = m.row; at = m.at } };
 
-    ghost invariant = { λ m. (length m.row.items ≡ m.program.now.cells) × (m.at ≤ length m.program.now.instrs) × IsProgram m.program.now };
+    ghost invariant = { λ m. (length m.row ≡ m.program.now.cells) × (m.at ≤ length m.program.now.instrs) × IsProgram m.program.now };
 }
 
 impl<'a> Machine<'a> {
@@ -46,9 +46,8 @@ impl<'a> Machine<'a> {
         // The same cell by cell.
         ensures loaded { IfOk result (λ m. IsLoaded program.now fill vector.now m.row) }
     {
-        let mut row = Vec::new(alloc);
-        row.resize(program.cells() as usize, fill.bit())?;
-        row::put_inputs(&mut row, program.inputs(), vector);
+        let mut row = Row::new(alloc, program.cells(), fill)?;
+        row.put_inputs(program.inputs(), vector);
         Ok(Machine {
             program,
             row,
@@ -64,8 +63,8 @@ impl<'a> Machine<'a> {
         // The same cell by cell.
         ensures loaded { IsLoaded self.old.program fill (bits_of line.now) self.new.row }
     {
-        self.row.fill(fill.bit());
-        row::put_line(&mut self.row, self.program.inputs(), line);
+        self.row.refill(fill);
+        self.row.put_line(self.program.inputs(), line);
         self.at = 0;
     }
 
@@ -83,7 +82,7 @@ impl<'a> Machine<'a> {
         let Some(instr) = self.program.instrs().get(self.at as usize) else {
             return false;
         };
-        row::execute(&mut self.row, instr);
+        self.row.execute(instr);
         self.at += 1;
         true
     }
@@ -102,18 +101,6 @@ impl<'a> Machine<'a> {
         ensures outside { IsNone result ↔ (self.now.program.cells ≤ c) }
         ensures cells { length self.now.row ≡ self.now.program.cells }
     {
-        self.row.get(c as usize).copied()
-    }
-}
-
-impl Fill {
-    /// The bit that it puts into a cell.
-    fn bit(self) -> bool
-        ensures { result ≡ fill_bit self }
-    {
-        match self {
-            Fill::Zeros => false,
-            Fill::Ones => true,
-        }
+        self.row.get(c)
     }
 }

@@ -1,7 +1,7 @@
 ghost use Rattle.std.specs.Prelude.{◌≡◌, length, IfOk};
 
 use crate::{
-    Cells, Fill, Ins, Instr, Invalid, Machine, Operand, Ports, Program, ProgramDraft, Target,
+    Cells, Fill, Ins, Instr, Invalid, Machine, Operand, Ports, Program, ProgramDraft, Row, Target,
 };
 use pim_io::NoMemory;
 use std::alloc::Global;
@@ -97,6 +97,27 @@ fn sets_and_clears(rt: HostRuntime) -> Result<(), Fail> {
     assert!(rt; !machine.step());
     assert_eq!(rt; machine.cell(0), Some(false));
     assert_eq!(rt; machine.cell(1), Some(true));
+    Ok(())
+}
+
+#[test]
+fn a_row_by_itself(rt: HostRuntime) -> Result<(), Fail> {
+    let mut row = Row::new(rt.alloc(), 3, Fill::Ones)?;
+    row.write(1, false);
+    row.write(3, true);
+    let nor = Instr::Nor {
+        t: 2,
+        ins: Ins::Two(0, 1),
+    };
+    assert_eq!(rt; nor.writes(), [2].as_slice());
+    row.execute(&nor);
+    assert_eq!(rt; row.get(0), Some(true));
+    assert_eq!(rt; row.get(1), Some(false));
+    assert_eq!(rt; row.get(2), Some(false));
+    assert_eq!(rt; row.get(3), None);
+    assert!(rt; !row.bit(3));
+    row.refill(Fill::Ones);
+    assert!(rt; row.bit(1) && row.bit(2));
     Ok(())
 }
 

@@ -5,7 +5,6 @@ use Rattle.std.proofs.lemmas.List.{get_or-set_same, get_or-set_other, length-set
 use Rattle.std.proofs.lemmas.List.Sums.{sum_by-set}
 use Rattle.std.proofs.lemmas.List.Folds.{sum_by-replicate}
 use Rattle.std.proofs.lemmas.Bool.{cases_eq}
-use Rattle.pim_net.specs.inner.Tables.{drivers_of}
 use Rattle.pim_net.specs.Depths.{deepest}
 use Rattle.pim_net.specs.inner.Drivers.{driver_depth, depth_by, next_by, cycle_by}
 use Rattle.pim_net.specs.inner.DepthFirst.{ins, sig, IsWired, deep, mark, is_new, is_deep, IsOnTrail, IsOffTrail, EachOpen, EachBelow, IsFrame, IsTrail, IsMarked, marked_depth, depth_mark, column_of, IsLevelled, IsRound, IsCycleFault}
@@ -42,7 +41,7 @@ each_below m n [] low below = tt
 each_below m n (f ∷ trail) low below = ((let h : f.depth ≤ m = below.0 in omega arith), each_below m n trail low below.1)
 
 -- the walk goes into an equation that was not come to
-pub marks_into : (es : List Equation) (table : List Driver) (marks : List Mark) (trail : List Frame) (k : ℕ) (f : Frame) → IsMarked es table marks trail → k < length es → mark marks k ≡ New → f.equation ≡ k → f.depth ≡ 0 → IsMarked es table (set marks k Open) (f ∷ trail)
+pub marks_into : (es : List Equation) (table : ℕ → Driver) (marks : List Mark) (trail : List Frame) (k : ℕ) (f : Frame) → IsMarked es table marks trail → k < length es → mark marks k ≡ New → f.equation ≡ k → f.depth ≡ 0 → IsMarked es table (set marks k Open) (f ∷ trail)
 marks_into es table marks trail k f old within fresh named shallow =
     let inside : k < length marks = omega (arith, old.sized) in
     let apart = new_apart marks trail k old.opened fresh in
@@ -64,7 +63,7 @@ marks_into es table marks trail k f old within fresh named shallow =
     }
 
 -- and its frame goes on the trail
-pub trail_into : (es : List Equation) (table : List Driver) (root : ℕ) (marks : List Mark) (f g : Frame) (trail : List Frame) → IsTrail es table root (g ∷ trail) → EachOpen marks (g ∷ trail) → f.equation < length es → mark marks f.equation ≡ New
+pub trail_into : (es : List Equation) (table : ℕ → Driver) (root : ℕ) (marks : List Mark) (f g : Frame) (trail : List Frame) → IsTrail es table root (g ∷ trail) → EachOpen marks (g ∷ trail) → f.equation < length es → mark marks f.equation ≡ New
     → g.column < length (ins es g.equation) → column_of es g ≡ sig es f.equation → f.column ≡ 0 → f.depth ≡ 0 → IsTrail es table root (f ∷ g ∷ trail)
 trail_into es table root marks f g trail t opened within fresh inside reads start shallow = (
   record {
@@ -78,7 +77,7 @@ trail_into es table root marks f g trail t opened within fresh inside reads star
   t,
 )
 
-pub trail_start : (es : List Equation) (table : List Driver) (root : ℕ) (f : Frame) → root < length es → f.equation ≡ root → f.column ≡ 0 → f.depth ≡ 0 → IsTrail es table root (f ∷ [])
+pub trail_start : (es : List Equation) (table : ℕ → Driver) (root : ℕ) (f : Frame) → root < length es → f.equation ≡ root → f.column ≡ 0 → f.depth ≡ 0 → IsTrail es table root (f ∷ [])
 trail_start es table root f within named start shallow = (
   record {
     known = subst (λ n. n < length es) (sym named) within;
@@ -88,12 +87,12 @@ trail_start es table root f within named start shallow = (
   named,
 )
 
-apart_top : (es : List Equation) (table : List Driver) (root : ℕ) (f : Frame) (trail : List Frame) → IsTrail es table root (f ∷ trail) → IsOffTrail f.equation trail
+apart_top : (es : List Equation) (table : ℕ → Driver) (root : ℕ) (f : Frame) (trail : List Frame) → IsTrail es table root (f ∷ trail) → IsOffTrail f.equation trail
 apart_top es table root f [] t = tt
 apart_top es table root f (g ∷ trail) t = t.3
 
 -- an equation whose columns all have a depth has one, and leaves the trail
-pub marks_done : (es : List Equation) (table : List Driver) (root : ℕ) (marks : List Mark) (f : Frame) (trail : List Frame) → IsWired es table → IsMarked es table marks (f ∷ trail) → IsTrail es table root (f ∷ trail) → f.column ≡ length (ins es f.equation) → IsMarked es table (set marks f.equation (Deep (f.depth + 1))) trail
+pub marks_done : (es : List Equation) (table : ℕ → Driver) (root : ℕ) (marks : List Mark) (f : Frame) (trail : List Frame) → IsWired es table → IsMarked es table marks (f ∷ trail) → IsTrail es table root (f ∷ trail) → f.column ≡ length (ins es f.equation) → IsMarked es table (set marks f.equation (Deep (f.depth + 1))) trail
 marks_done es table root marks f trail wired old t all =
     let frame = head_frame es table root f trail t in
     let k = f.equation in
@@ -124,14 +123,14 @@ marks_done es table root marks f trail wired old t all =
       counted = omega (arith, old.counted, deeps, news);
     }
 
-pub trail_done : (es : List Equation) (table : List Driver) (root : ℕ) (f g : Frame) (trail : List Frame) → IsTrail es table root (f ∷ g ∷ trail) → IsTrail es table root (g ∷ trail)
+pub trail_done : (es : List Equation) (table : ℕ → Driver) (root : ℕ) (f g : Frame) (trail : List Frame) → IsTrail es table root (f ∷ g ∷ trail) → IsTrail es table root (g ∷ trail)
 trail_done es table root f g trail t = t.4
 
 -- a depth that the marks tell is the depth
-pub marked_is : (es : List Equation) (table : List Driver) (marks : List Mark) (trail : List Frame) (c d : ℕ) → IsWired es table → IsMarked es table marks trail → marked_depth marks (drivers_of table c) ≡ Some d → (deep es table c ≡ Some d) × (d ≤ count_by is_deep marks)
-marked_is es table marks trail c d wired old h = by (drivers_of table c) refl h
+pub marked_is : (es : List Equation) (table : ℕ → Driver) (marks : List Mark) (trail : List Frame) (c d : ℕ) → IsWired es table → IsMarked es table marks trail → marked_depth marks (table c) ≡ Some d → (deep es table c ≡ Some d) × (d ≤ count_by is_deep marks)
+marked_is es table marks trail c d wired old h = by (table c) refl h
   where
-    of_mark : (m : Mark) (k : ℕ) → mark marks k ≡ m → drivers_of table c ≡ Cover k → depth_mark m ≡ Some d → (deep es table c ≡ Some d) × (d ≤ count_by is_deep marks)
+    of_mark : (m : Mark) (k : ℕ) → mark marks k ≡ m → table c ≡ Cover k → depth_mark m ≡ Some d → (deep es table c ≡ Some d) × (d ≤ count_by is_deep marks)
     of_mark New k is named h = cc
     of_mark Open k is named h = cc
     of_mark (Deep l) k is named h =
@@ -139,11 +138,11 @@ marked_is es table marks trail c d wired old h = by (drivers_of table c) refl h
         let was = old.depths k l is in
         (ap (deep es table) (sym (wired.covers c k named).1) ∙ was.0 ∙ ap Some same, omega (arith, was.1, same))
 
-    by : (x : Driver) → drivers_of table c ≡ x → marked_depth marks x ≡ Some d → (deep es table c ≡ Some d) × (d ≤ count_by is_deep marks)
+    by : (x : Driver) → table c ≡ x → marked_depth marks x ≡ Some d → (deep es table c ≡ Some d) × (d ≤ count_by is_deep marks)
     by Nobody named h = cc
     by (Input j) named h =
         let same : 0 ≡ d = cc in
-        (ap (driver_depth (λ s. depth_by (drivers_of table) es (length es) s) es) named ∙ h, omega (arith, same))
+        (ap (driver_depth (λ s. depth_by table es (length es) s) es) named ∙ h, omega (arith, same))
     by (Cover k) named h = of_mark (mark marks k) k refl named h
 
 deepest_push : (ds : List (Option ℕ)) (m d : ℕ) → deepest ds ≡ Some m → deepest (ds ++ Some d ∷ []) ≡ Some (max m d)
@@ -157,7 +156,7 @@ deepest_push (first ∷ ds) m d h =
     ap (λ o. deepest (o ∷ (ds ++ Some d ∷ []))) w.2 ∙ ap (option_map (max w.0)) (deepest_push ds w.1 d w.3) ∙ ap Some e
 
 -- a frame passes a column that has a depth
-frame_past : (es : List Equation) (table : List Driver) (f g : Frame) (d : ℕ) → IsFrame es table f → f.column < length (ins es f.equation) → deep es table (column_of es f) ≡ Some d → g.equation ≡ f.equation → g.column ≡ f.column + 1 → g.depth ≡ max f.depth d → IsFrame es table g
+frame_past : (es : List Equation) (table : ℕ → Driver) (f g : Frame) (d : ℕ) → IsFrame es table f → f.column < length (ins es f.equation) → deep es table (column_of es f) ≡ Some d → g.equation ≡ f.equation → g.column ≡ f.column + 1 → g.depth ≡ max f.depth d → IsFrame es table g
 frame_past es table f g d frame inside has named on greatest =
     let more = map_more (deep es table) (ins es f.equation) f.column 0 inside ∙ ap (λ o. map (deep es table) (take f.column (ins es f.equation)) ++ o ∷ []) has in
     record {
@@ -166,12 +165,12 @@ frame_past es table f g d frame inside has named on greatest =
       depth = ap (λ n. deepest (map (deep es table) (take g.column (ins es n)))) named ∙ ap (λ n. deepest (map (deep es table) (take n (ins es f.equation)))) on ∙ ap deepest more ∙ deepest_push (map (deep es table) (take f.column (ins es f.equation))) f.depth d frame.depth ∙ ap Some (sym greatest);
     }
 
-pub trail_past : (es : List Equation) (table : List Driver) (root : ℕ) (f g : Frame) (trail : List Frame) (d : ℕ) → IsTrail es table root (f ∷ trail) → f.column < length (ins es f.equation) → deep es table (column_of es f) ≡ Some d → g.equation ≡ f.equation → g.column ≡ f.column + 1 → g.depth ≡ max f.depth d → IsTrail es table root (g ∷ trail)
+pub trail_past : (es : List Equation) (table : ℕ → Driver) (root : ℕ) (f g : Frame) (trail : List Frame) (d : ℕ) → IsTrail es table root (f ∷ trail) → f.column < length (ins es f.equation) → deep es table (column_of es f) ≡ Some d → g.equation ≡ f.equation → g.column ≡ f.column + 1 → g.depth ≡ max f.depth d → IsTrail es table root (g ∷ trail)
 trail_past es table root f g [] d t inside has named on greatest = (frame_past es table f g d t.0 inside has named on greatest, named ∙ t.1)
 trail_past es table root f g (h ∷ trail) d t inside has named on greatest =
     (frame_past es table f g d t.0 inside has named on greatest, t.1, t.2 ∙ ap (sig es) (sym named), subst (λ n. IsOffTrail n (h ∷ trail)) (sym named) t.3, t.4)
 
-pub marks_past : (es : List Equation) (table : List Driver) (marks : List Mark) (f g : Frame) (trail : List Frame) (d : ℕ) → IsMarked es table marks (f ∷ trail) → d ≤ count_by is_deep marks → g.equation ≡ f.equation → g.depth ≡ max f.depth d → IsMarked es table marks (g ∷ trail)
+pub marks_past : (es : List Equation) (table : ℕ → Driver) (marks : List Mark) (f g : Frame) (trail : List Frame) (d : ℕ) → IsMarked es table marks (f ∷ trail) → d ≤ count_by is_deep marks → g.equation ≡ f.equation → g.depth ≡ max f.depth d → IsMarked es table marks (g ∷ trail)
 marks_past es table marks f g trail d old low named greatest = record {
   sized = old.sized;
   depths = old.depths;
@@ -204,7 +203,7 @@ new_at (suc n) zero = refl
 new_at (suc n) (suc k) = new_at n k
 
 -- marks that are all new
-pub marks_new : (es : List Equation) (table : List Driver) (marks : List Mark) → marks ≡ replicate (length es) New → IsMarked es table marks []
+pub marks_new : (es : List Equation) (table : ℕ → Driver) (marks : List Mark) → marks ≡ replicate (length es) New → IsMarked es table marks []
 marks_new es table marks is = record {
   sized = ap length is ∙ length-replicate (length es) New;
   depths = λ k l h. let both : New ≡ Deep l = sym (new_at (length es) k) ∙ ap (λ ms. mark ms k) (sym is) ∙ h in absurd (let no : ⊥ = cc in no);
@@ -218,7 +217,7 @@ marks_new es table marks is = record {
 }
 
 -- with no trail, what was come to has its depth
-pub deep_of : (es : List Equation) (table : List Driver) (marks : List Mark) (k : ℕ) → IsMarked es table marks [] → is_new (mark marks k) ≡ false → (is_deep (mark marks k) ≡ true) × (deep es table (sig es k) ≡ depth_mark (mark marks k))
+pub deep_of : (es : List Equation) (table : ℕ → Driver) (marks : List Mark) (k : ℕ) → IsMarked es table marks [] → is_new (mark marks k) ≡ false → (is_deep (mark marks k) ≡ true) × (deep es table (sig es k) ≡ depth_mark (mark marks k))
 deep_of es table marks k marked came = by (mark marks k) refl
   where
     by : (m : Mark) → mark marks k ≡ m → (is_deep (mark marks k) ≡ true) × (deep es table (sig es k) ≡ depth_mark (mark marks k))
@@ -245,20 +244,20 @@ has_depth Open o h e = cc
 has_depth (Deep l) o h e = ap is_none e
 
 -- the cycle from a root whose walk came round
-pub cycle_from : (es : List Equation) (table : List Driver) (marks : List Mark) (root : ℕ) (fault : NetFault) → root < length es → IsMarked es table marks [] → ((k : ℕ) → k < root → is_new (mark marks k) ≡ false) → IsRound es table root fault → IsCycleFault es table fault
+pub cycle_from : (es : List Equation) (table : ℕ → Driver) (marks : List Mark) (root : ℕ) (fault : NetFault) → root < length es → IsMarked es table marks [] → ((k : ℕ) → k < root → is_new (mark marks k) ≡ false) → IsRound es table root fault → IsCycleFault es table fault
 cycle_from es table marks root (Twice s) within marked came round = round
 cycle_from es table marks root (Undriven s) within marked came round = round
 cycle_from es table marks root NoMemory within marked came round = tt
 cycle_from es table marks root (Cycle cycle) within marked came round =
     let w = first_without (deep es table) es root within (λ k h. let d = deep_of es table marks k marked (came k h) in has_depth (mark marks k) (deep es table (sig es k)) d.0 d.1) round.0 in (
-      ap (option_map (λ (e : Equation). walk (next_by (drivers_of table) (deep es table) es) (suc (length es)) [] (Some e.sig))) w.1
-          ∙ ap (λ s. Some (walk (next_by (drivers_of table) (deep es table) es) (suc (length es)) [] (Some s))) w.2
+      ap (option_map (λ (e : Equation). walk (next_by table (deep es table) es) (suc (length es)) [] (Some e.sig))) w.1
+          ∙ ap (λ s. Some (walk (next_by table (deep es table) es) (suc (length es)) [] (Some s))) w.2
           ∙ ap Some round.1,
       round.2,
     )
 
 -- without a cycle each equation has its depth
-pub levelled_is : (es : List Equation) (table : List Driver) (marks : List Mark) → IsLevelled es table marks → cycle_by (drivers_of table) (deep es table) es ≡ None
+pub levelled_is : (es : List Equation) (table : ℕ → Driver) (marks : List Mark) → IsLevelled es table marks → cycle_by table (deep es table) es ≡ None
 levelled_is es table marks l =
-    ap (option_map (λ (e : Equation). walk (next_by (drivers_of table) (deep es table) es) (suc (length es)) [] (Some e.sig)))
+    ap (option_map (λ (e : Equation). walk (next_by table (deep es table) es) (suc (length es)) [] (Some e.sig)))
     (all_with (deep es table) es (λ k h. has_depth (mark marks k) (deep es table (sig es k)) (l.all k h) (l.depths k h)))

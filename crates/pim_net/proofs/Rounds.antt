@@ -51,7 +51,7 @@ way_more es x s t way reads w = record {
     reads_of (suc i) h = let e : suc (i + 1) ≡ suc i + 1 = omega arith in subst (λ m. Reads es (get_or (x ∷ way) m 0) (get_or way i 0)) e (w.reads i (omega arith))
 
 -- back from the latest signal of a trail to a signal of it
-way_back : (es : List Equation) (table : List Driver) (root k : ℕ) (f : Frame) (trail : List Frame) → IsTrail es table root (f ∷ trail) → IsOnTrail k (f ∷ trail) → IsWayBack es (sig es f.equation) (sig es k) (back_to (sig es k) (trail_sigs es (f ∷ trail)))
+way_back : (es : List Equation) (table : ℕ → Driver) (root k : ℕ) (f : Frame) (trail : List Frame) → IsTrail es table root (f ∷ trail) → IsOnTrail k (f ∷ trail) → IsWayBack es (sig es f.equation) (sig es k) (back_to (sig es k) (trail_sigs es (f ∷ trail)))
 way_back es table root k f [] t among =
     ⊎_elim
     (λ (h : (eqb (sig es f.equation) (sig es k) ≡ true) × (sig es f.equation ≡ sig es k)).
@@ -97,7 +97,7 @@ way_round es s t way reads w =
     }
 
 -- what a trail that comes round to its own equation k gives is a cycle
-pub round_is_cycle : (es : List Equation) (table : List Driver) (root k : ℕ) (f : Frame) (trail : List Frame) → IsTrail es table root (f ∷ trail) → IsOnTrail k (f ∷ trail) → f.column < length (ins es f.equation) → column_of es f ≡ sig es k
+pub round_is_cycle : (es : List Equation) (table : ℕ → Driver) (root k : ℕ) (f : Frame) (trail : List Frame) → IsTrail es table root (f ∷ trail) → IsOnTrail k (f ∷ trail) → f.column < length (ins es f.equation) → column_of es f ≡ sig es k
     → IsCycle es (reverse (back_to (sig es k) (trail_sigs es (f ∷ trail))))
 round_is_cycle es table root k f trail t among inside reads =
     way_round es (sig es f.equation) (sig es k) (back_to (sig es k) (trail_sigs es (f ∷ trail)))

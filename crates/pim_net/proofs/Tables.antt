@@ -1,12 +1,10 @@
 -- How a table of drivers is filled.
-use Rattle.std.proofs.Common.{◌≡◌, ◌≢◌, ℕ, suc, ◌+◌, ◌<◌, ◌≤◌, ◌++◌, ◌||◌, ◌==◌, Bool, true, false, not, eqb, cond, List, [], ◌∷◌, Option, Some, None, All, length, get_or, set, refl, ap, sym, ◌∙◌, subst, arith, ⊎_elim, take, drop}
+use Rattle.std.proofs.Common.{◌≡◌, ◌≢◌, ℕ, suc, ◌+◌, ◌<◌, ◌≤◌, ◌++◌, ◌||◌, ◌==◌, Bool, true, false, not, eqb, cond, List, [], ◌∷◌, Option, Some, None, length, get_or, refl, ap, sym, ◌∙◌, subst, arith, ⊎_elim, take, drop}
 use Rattle.std.specs.Prelude.{is_some, option_map}
 use Rattle.std.specs.Option.{option_or}
-use Rattle.std.proofs.lemmas.List.{get_or-set_same, get_or-set_other, length-set, take_more, drop_more, length-take-le, append-nil, append_assoc, take_all, drop_all, get_or_past}
-use Rattle.std.proofs.lemmas.List.Elements.{All-head, All-tail}
-use Rattle.std.proofs.lemmas.Bool.{cases_lt}
+use Rattle.std.proofs.lemmas.List.{take_more, drop_more, length-take-le, append-nil, append_assoc, take_all, drop_all}
 use mathlib.Core.Path.{fun_ext}
-use Rattle.pim_net.specs.inner.Tables.{drivers_of}
+use Rattle.pim_net.specs.Tables.{put}
 use Rattle.std.proofs.lemmas.Bool.Decides.{eqb_tells}
 use Rattle.pim_net.specs.Faults.{first_repeat}
 use Rattle.pim_net.specs.Drivers.{place}
@@ -15,8 +13,21 @@ use Rattle.pim_net.specs.declared.driver.Driver.{Driver}
 use Rattle.pim_net.specs.declared.driver.Driver.TheVariants.{Nobody, Input, Cover}
 
 -- a table of the drivers among these inputs and these signals of equations
-abbrev pub Tells : List ℕ → List ℕ → List Driver → Type 0
-Tells xs ys table = (s : ℕ) → s < length table → get_or table s Nobody ≡ driver_by (place s xs) (place s ys)
+abbrev pub Tells : List ℕ → List ℕ → (ℕ → Driver) → Type 0
+Tells xs ys table = (s : ℕ) → table s ≡ driver_by (place s xs) (place s ys)
+
+-- two numbers that differ are told apart
+eqb_off : (a b : ℕ) → a ≢ b → eqb a b ≡ false
+eqb_off a b apart = ⊎_elim (λ (h : (eqb a b ≡ true) × (a ≡ b)). absurd (apart h.1)) (λ (h : (eqb a b ≡ false) × (a ≢ b)). h.0) (eqb_tells a b)
+
+-- the value that was put
+put_same : (table : ℕ → Driver) (x : ℕ) (v : Driver) → put table x v x ≡ v
+put_same table x v =
+    ap (λ b. cond b v (table x)) (⊎_elim (λ (h : (eqb x x ≡ true) × (x ≡ x)). h.0) (λ (h : (eqb x x ≡ false) × (x ≢ x)). absurd (h.1 refl)) (eqb_tells x x))
+
+-- the other values stay
+put_other : (table : ℕ → Driver) (x s : ℕ) (v : Driver) → s ≢ x → put table x v s ≡ table s
+put_other table x s v apart = ap (λ b. cond b v (table s)) (eqb_off s x apart)
 
 push_first : (b : Bool) (p : Option ℕ) → cond b p None ≡ option_or None (cond b p None)
 push_first b p = refl
@@ -50,43 +61,41 @@ nobody_is (Some j) q = refl
 nobody_is None (Some k) = refl
 nobody_is None None = refl
 
-pub taken_is : (xs ys : List ℕ) (table : List Driver) (x : ℕ) → Tells xs ys table → x < length table → is_nobody (get_or table x Nobody) ≡ not (is_some (place x (xs ++ ys)))
-taken_is xs ys table x tells within = ap is_nobody (tells x within) ∙ nobody_is (place x xs) (place x ys) ∙ ap not (sym (place-append x xs ys))
+pub taken_is : (xs ys : List ℕ) (table : ℕ → Driver) (x : ℕ) → Tells xs ys table → is_nobody (table x) ≡ not (is_some (place x (xs ++ ys)))
+taken_is xs ys table x tells = ap is_nobody (tells x) ∙ nobody_is (place x xs) (place x ys) ∙ ap not (sym (place-append x xs ys))
 
 none_of : (p q : Option ℕ) → is_nobody (driver_by p q) ≡ true → (p ≡ None) × (q ≡ None)
 none_of (Some j) q h = cc
 none_of None (Some k) h = cc
 none_of None None h = (refl, refl)
 
-pub input_taken : (xs : List ℕ) (table : List Driver) (x : ℕ) → Tells xs [] table → x < length table → is_nobody (get_or table x Nobody) ≡ true → Tells (xs ++ x ∷ []) [] (set table x (Input (length xs)))
-input_taken xs table x tells within free s below =
-    let here = none_of (place x xs) None (ap is_nobody (sym (tells x within)) ∙ free) in
-    let old : s < length table = rw (← length-set table x (Input (length xs))) below in
+pub input_taken : (xs : List ℕ) (table : ℕ → Driver) (x : ℕ) → Tells xs [] table → is_nobody (table x) ≡ true → Tells (xs ++ x ∷ []) [] (put table x (Input (length xs)))
+input_taken xs table x tells free s =
+    let here = none_of (place x xs) None (ap is_nobody (sym (tells x)) ∙ free) in
     ⊎_elim
     (λ (h : (eqb x s ≡ true) × (x ≡ s)).
     let same : place s (xs ++ x ∷ []) ≡ Some (length xs) = place-push s xs x ∙ ap (λ b. option_or (place s xs) (cond b (Some (length xs)) None)) h.0 ∙ ap (λ p. option_or p (Some (length xs))) (ap (λ t. place t xs) (sym h.1) ∙ here.0) in
-    ap (λ t. get_or (set table x (Input (length xs))) t Nobody) (sym h.1) ∙ get_or-set_same table x (Input (length xs)) Nobody within ∙ ap (λ p. driver_by p None) (sym same))
+    ap (put table x (Input (length xs))) (sym h.1) ∙ put_same table x (Input (length xs)) ∙ ap (λ p. driver_by p None) (sym same))
     (λ (h : (eqb x s ≡ false) × (x ≢ s)).
     let same : place s (xs ++ x ∷ []) ≡ place s xs = place-push s xs x ∙ ap (λ b. option_or (place s xs) (cond b (Some (length xs)) None)) h.0 ∙ or_none (place s xs) in
-    get_or-set_other table x s (Input (length xs)) Nobody (λ e. h.1 (sym e)) ∙ tells s old ∙ ap (λ p. driver_by p None) (sym same))
+    put_other table x s (Input (length xs)) (λ e. h.1 (sym e)) ∙ tells s ∙ ap (λ p. driver_by p None) (sym same))
     (eqb_tells x s)
   where
     or_none : (p : Option ℕ) → option_or p None ≡ p
     or_none None = refl
     or_none (Some k) = refl
 
-pub equation_taken : (xs ys : List ℕ) (table : List Driver) (x : ℕ) → Tells xs ys table → x < length table → is_nobody (get_or table x Nobody) ≡ true → Tells xs (ys ++ x ∷ []) (set table x (Cover (length ys)))
-equation_taken xs ys table x tells within free s below =
-    let here = none_of (place x xs) (place x ys) (ap is_nobody (sym (tells x within)) ∙ free) in
-    let old : s < length table = rw (← length-set table x (Cover (length ys))) below in
+pub equation_taken : (xs ys : List ℕ) (table : ℕ → Driver) (x : ℕ) → Tells xs ys table → is_nobody (table x) ≡ true → Tells xs (ys ++ x ∷ []) (put table x (Cover (length ys)))
+equation_taken xs ys table x tells free s =
+    let here = none_of (place x xs) (place x ys) (ap is_nobody (sym (tells x)) ∙ free) in
     ⊎_elim
     (λ (h : (eqb x s ≡ true) × (x ≡ s)).
     let same : place s (ys ++ x ∷ []) ≡ Some (length ys) = place-push s ys x ∙ ap (λ b. option_or (place s ys) (cond b (Some (length ys)) None)) h.0 ∙ ap (λ p. option_or p (Some (length ys))) (ap (λ t. place t ys) (sym h.1) ∙ here.1) in
     let none : place s xs ≡ None = ap (λ t. place t xs) (sym h.1) ∙ here.0 in
-    ap (λ t. get_or (set table x (Cover (length ys))) t Nobody) (sym h.1) ∙ get_or-set_same table x (Cover (length ys)) Nobody within ∙ ap (λ p. driver_by None p) (sym same) ∙ ap (λ p. driver_by p (place s (ys ++ x ∷ []))) (sym none))
+    ap (put table x (Cover (length ys))) (sym h.1) ∙ put_same table x (Cover (length ys)) ∙ ap (λ p. driver_by None p) (sym same) ∙ ap (λ p. driver_by p (place s (ys ++ x ∷ []))) (sym none))
     (λ (h : (eqb x s ≡ false) × (x ≢ s)).
     let same : place s (ys ++ x ∷ []) ≡ place s ys = place-push s ys x ∙ ap (λ b. option_or (place s ys) (cond b (Some (length ys)) None)) h.0 ∙ or_none (place s ys) in
-    get_or-set_other table x s (Cover (length ys)) Nobody (λ e. h.1 (sym e)) ∙ tells s old ∙ ap (λ p. driver_by (place s xs) p) (sym same))
+    put_other table x s (Cover (length ys)) (λ e. h.1 (sym e)) ∙ tells s ∙ ap (λ p. driver_by (place s xs) p) (sym same))
     (eqb_tells x s)
   where
     or_none : (p : Option ℕ) → option_or p None ≡ p
@@ -94,22 +103,25 @@ equation_taken xs ys table x tells within free s below =
     or_none (Some k) = refl
 
 -- the loop over the inputs: the drivers that the table has, and that no repeat was met
-pub record InputsDone (inputs signals : List ℕ) (size k : ℕ) (table : List Driver) : Type 0 where
-  pub sized : length table ≡ size
+pub record InputsDone (inputs signals : List ℕ) (k : ℕ) (table : ℕ → Driver) : Type 0 where
   pub tells : Tells (take k inputs) [] table
   pub firsts : first_repeat (take k inputs) (drop k inputs ++ signals) ≡ first_repeat [] (inputs ++ signals)
 
+-- before the first input the table gives nobody
+pub inputs_none : (inputs signals : List ℕ) (table : ℕ → Driver) → table ≡ (λ s. Nobody) → InputsDone inputs signals 0 table
+inputs_none inputs signals table is = record { tells = λ s. ap (λ t. t s) is; firsts = refl }
+
 -- a signal that the table gives nobody doesn't stand before
-absent : (xs ys : List ℕ) (table : List Driver) (x : ℕ) → Tells xs ys table → x < length table → is_nobody (get_or table x Nobody) ≡ true → is_some (place x (xs ++ ys)) ≡ false
-absent xs ys table x tells within free = not_true (is_some (place x (xs ++ ys))) (sym (taken_is xs ys table x tells within) ∙ free)
+absent : (xs ys : List ℕ) (table : ℕ → Driver) (x : ℕ) → Tells xs ys table → is_nobody (table x) ≡ true → is_some (place x (xs ++ ys)) ≡ false
+absent xs ys table x tells free = not_true (is_some (place x (xs ++ ys))) (sym (taken_is xs ys table x tells) ∙ free)
   where
     not_true : (b : Bool) → not b ≡ true → b ≡ false
     not_true true h = cc
     not_true false h = refl
 
 -- a signal that the table gives a driver stands before
-present : (xs ys : List ℕ) (table : List Driver) (x : ℕ) → Tells xs ys table → x < length table → is_nobody (get_or table x Nobody) ≡ false → is_some (place x (xs ++ ys)) ≡ true
-present xs ys table x tells within taken = not_false (is_some (place x (xs ++ ys))) (sym (taken_is xs ys table x tells within) ∙ taken)
+present : (xs ys : List ℕ) (table : ℕ → Driver) (x : ℕ) → Tells xs ys table → is_nobody (table x) ≡ false → is_some (place x (xs ++ ys)) ≡ true
+present xs ys table x tells taken = not_false (is_some (place x (xs ++ ys))) (sym (taken_is xs ys table x tells) ∙ taken)
   where
     not_false : (b : Bool) → not b ≡ false → b ≡ true
     not_false true h = refl
@@ -121,73 +133,50 @@ repeat_on before rest x h = ap (λ b. cond b (Some x) (first_repeat (before ++ x
 repeat_here : (before rest : List ℕ) (x : ℕ) → is_some (place x before) ≡ true → first_repeat before (x ∷ rest) ≡ Some x
 repeat_here before rest x h = ap (λ b. cond b (Some x) (first_repeat (before ++ x ∷ []) rest)) h
 
-pub inputs_next : (inputs signals : List ℕ) (size k x : ℕ) (table after : List Driver) → InputsDone inputs signals size k table → k < length inputs → x ≡ get_or inputs k 0 → x < size → is_nobody (get_or table x Nobody) ≡ true → after ≡ set table x (Input k) → InputsDone inputs signals size (k + 1) after
-inputs_next inputs signals size k x table after done within item below free is =
+pub inputs_next : (inputs signals : List ℕ) (k x : ℕ) (table after : ℕ → Driver) → InputsDone inputs signals k table → k < length inputs → x ≡ get_or inputs k 0 → is_nobody (table x) ≡ true → after ≡ put table x (Input k) → InputsDone inputs signals (k + 1) after
+inputs_next inputs signals k x table after done within item free is =
     let more : take (k + 1) inputs ≡ take k inputs ++ x ∷ [] = take_more inputs k 0 within ∙ ap (λ y. take k inputs ++ y ∷ []) (sym item) in
     let rest : drop k inputs ≡ x ∷ drop (k + 1) inputs = drop_more inputs k 0 within ∙ ap (λ y. y ∷ drop (k + 1) inputs) (sym item) in
     let at : length (take k inputs) ≡ k = length-take-le k inputs (omega arith) in
-    let inside : x < length table = omega (arith, done.sized) in
-    let none : is_some (place x (take k inputs)) ≡ false = ap (λ l. is_some (place x l)) (sym (append-nil (take k inputs))) ∙ absent (take k inputs) [] table x done.tells inside free in
-    let filled : Tells (take k inputs ++ x ∷ []) [] (set table x (Input k)) = subst (λ n. Tells (take k inputs ++ x ∷ []) [] (set table x (Input n))) at (input_taken (take k inputs) table x done.tells inside free) in
+    let none : is_some (place x (take k inputs)) ≡ false = ap (λ l. is_some (place x l)) (sym (append-nil (take k inputs))) ∙ absent (take k inputs) [] table x done.tells free in
+    let filled : Tells (take k inputs ++ x ∷ []) [] (put table x (Input k)) = subst (λ n. Tells (take k inputs ++ x ∷ []) [] (put table x (Input n))) at (input_taken (take k inputs) table x done.tells free) in
     record {
-      sized = ap length is ∙ length-set table x (Input k) ∙ done.sized;
-      tells = subst (λ t. Tells (take (k + 1) inputs) [] t) (sym is) (subst (λ l. Tells l [] (set table x (Input k))) (sym more) filled);
+      tells = subst (λ t. Tells (take (k + 1) inputs) [] t) (sym is) (subst (λ l. Tells l [] (put table x (Input k))) (sym more) filled);
       firsts = ap (λ l. first_repeat l (drop (k + 1) inputs ++ signals)) more ∙ sym (repeat_on (take k inputs) (drop (k + 1) inputs ++ signals) x none) ∙ ap (λ l. first_repeat (take k inputs) (l ++ signals)) (sym rest) ∙ done.firsts;
     }
 
 -- the loop over the equations, by their signals
-pub record EquationsDone (inputs signals : List ℕ) (size k : ℕ) (table : List Driver) : Type 0 where
-  pub sized : length table ≡ size
+pub record EquationsDone (inputs signals : List ℕ) (k : ℕ) (table : ℕ → Driver) : Type 0 where
   pub tells : Tells inputs (take k signals) table
   pub firsts : first_repeat (inputs ++ take k signals) (drop k signals) ≡ first_repeat [] (inputs ++ signals)
 
-pub equations_none : (inputs signals : List ℕ) (size k : ℕ) (table : List Driver) → length inputs ≤ k → InputsDone inputs signals size k table → EquationsDone inputs signals size 0 table
-equations_none inputs signals size k table all done = record {
-  sized = done.sized;
+pub equations_none : (inputs signals : List ℕ) (k : ℕ) (table : ℕ → Driver) → length inputs ≤ k → InputsDone inputs signals k table → EquationsDone inputs signals 0 table
+equations_none inputs signals k table all done = record {
   tells = subst (λ l. Tells l [] table) (take_all k inputs all) done.tells;
   firsts = ap (λ l. first_repeat l signals) (append-nil inputs ∙ sym (take_all k inputs all)) ∙ ap (λ l. first_repeat (take k inputs) (l ++ signals)) (sym (drop_all k inputs all)) ∙ done.firsts;
 }
 
-pub equations_next : (inputs signals : List ℕ) (size k x : ℕ) (table after : List Driver) → EquationsDone inputs signals size k table → k < length signals → x ≡ get_or signals k 0 → x < size → is_nobody (get_or table x Nobody) ≡ true → after ≡ set table x (Cover k) → EquationsDone inputs signals size (k + 1) after
-equations_next inputs signals size k x table after done within item below free is =
+pub equations_next : (inputs signals : List ℕ) (k x : ℕ) (table after : ℕ → Driver) → EquationsDone inputs signals k table → k < length signals → x ≡ get_or signals k 0 → is_nobody (table x) ≡ true → after ≡ put table x (Cover k) → EquationsDone inputs signals (k + 1) after
+equations_next inputs signals k x table after done within item free is =
     let more : take (k + 1) signals ≡ take k signals ++ x ∷ [] = take_more signals k 0 within ∙ ap (λ y. take k signals ++ y ∷ []) (sym item) in
     let rest : drop k signals ≡ x ∷ drop (k + 1) signals = drop_more signals k 0 within ∙ ap (λ y. y ∷ drop (k + 1) signals) (sym item) in
     let at : length (take k signals) ≡ k = length-take-le k signals (omega arith) in
-    let inside : x < length table = omega (arith, done.sized) in
-    let none = absent inputs (take k signals) table x done.tells inside free in
-    let filled : Tells inputs (take k signals ++ x ∷ []) (set table x (Cover k)) = subst (λ n. Tells inputs (take k signals ++ x ∷ []) (set table x (Cover n))) at (equation_taken inputs (take k signals) table x done.tells inside free) in
+    let none = absent inputs (take k signals) table x done.tells free in
+    let filled : Tells inputs (take k signals ++ x ∷ []) (put table x (Cover k)) = subst (λ n. Tells inputs (take k signals ++ x ∷ []) (put table x (Cover n))) at (equation_taken inputs (take k signals) table x done.tells free) in
     record {
-      sized = ap length is ∙ length-set table x (Cover k) ∙ done.sized;
-      tells = subst (λ t. Tells inputs (take (k + 1) signals) t) (sym is) (subst (λ l. Tells inputs l (set table x (Cover k))) (sym more) filled);
+      tells = subst (λ t. Tells inputs (take (k + 1) signals) t) (sym is) (subst (λ l. Tells inputs l (put table x (Cover k))) (sym more) filled);
       firsts = ap (λ l. first_repeat (inputs ++ l) (drop (k + 1) signals)) more ∙ ap (λ l. first_repeat l (drop (k + 1) signals)) (sym (append_assoc inputs (take k signals) (x ∷ []))) ∙ sym (repeat_on (inputs ++ take k signals) (drop (k + 1) signals) x none) ∙ ap (λ l. first_repeat (inputs ++ take k signals) l) (sym rest) ∙ done.firsts;
     }
 
 -- a second driver among the equations
-pub equations_repeat : (inputs signals : List ℕ) (size k x : ℕ) (table : List Driver) → EquationsDone inputs signals size k table → k < length signals → x ≡ get_or signals k 0 → x < size → is_nobody (get_or table x Nobody) ≡ false → first_repeat [] (inputs ++ signals) ≡ Some x
-equations_repeat inputs signals size k x table done within item below taken =
+pub equations_repeat : (inputs signals : List ℕ) (k x : ℕ) (table : ℕ → Driver) → EquationsDone inputs signals k table → k < length signals → x ≡ get_or signals k 0 → is_nobody (table x) ≡ false → first_repeat [] (inputs ++ signals) ≡ Some x
+equations_repeat inputs signals k x table done within item taken =
     let rest : drop k signals ≡ x ∷ drop (k + 1) signals = drop_more signals k 0 within ∙ ap (λ y. y ∷ drop (k + 1) signals) (sym item) in
-    let inside : x < length table = omega (arith, done.sized) in
-    sym done.firsts ∙ ap (λ l. first_repeat (inputs ++ take k signals) l) rest ∙ repeat_here (inputs ++ take k signals) (drop (k + 1) signals) x (present inputs (take k signals) table x done.tells inside taken)
+    sym done.firsts ∙ ap (λ l. first_repeat (inputs ++ take k signals) l) rest ∙ repeat_here (inputs ++ take k signals) (drop (k + 1) signals) x (present inputs (take k signals) table x done.tells taken)
 
-place_none : (s size : ℕ) (xs : List ℕ) → All (λ x. x < size) xs → size ≤ s → place s xs ≡ None
-place_none s size [] below past = refl
-place_none s size (x ∷ xs) below past =
-    let apart : eqb x s ≡ false = eqb-off x s (λ e. absurd (omega (arith, All-head (λ x. x < size) x xs below))) in
-    ap (λ b. cond b (Some 0) (option_map suc (place s xs))) apart ∙ ap (option_map suc) (place_none s size xs (All-tail (λ x. x < size) x xs below) past)
-  where
-    eqb-off : (a b : ℕ) → (a ≡ b → ⊥) → eqb a b ≡ false
-    eqb-off a b apart = ⊎_elim (λ (h : (eqb a b ≡ true) × (a ≡ b)). absurd (apart h.1)) (λ (h : (eqb a b ≡ false) × (a ≢ b)). h.0) (eqb_tells a b)
-
-pub equations_all : (inputs signals : List ℕ) (size k : ℕ) (table : List Driver) → length signals ≤ k → All (λ x. x < size) inputs → All (λ x. x < size) signals → EquationsDone inputs signals size k table
-    → (first_repeat [] (inputs ++ signals) ≡ None) × (length table ≡ size) × (drivers_of table ≡ (λ s. driver_by (place s inputs) (place s signals)))
-equations_all inputs signals size k table all inputs_below signals_below done =
-    let tells : Tells inputs signals table = subst (λ l. Tells inputs l table) (take_all k signals all) done.tells in (
-      sym done.firsts ∙ ap (λ l. first_repeat (inputs ++ take k signals) l) (drop_all k signals all),
-      done.sized,
-      fun_ext (λ s. ⊎_elim
-          (λ (h : s < length table). tells s h)
-          (λ (h : length table ≤ s).
-          let past : size ≤ s = omega (arith, done.sized) in
-          get_or_past table s Nobody h ∙ ap (λ p. driver_by None p) (sym (place_none s size signals signals_below past)) ∙ ap (λ p. driver_by p (place s signals)) (sym (place_none s size inputs inputs_below past)))
-          (cases_lt s (length table))),
-    )
+pub equations_all : (inputs signals : List ℕ) (k : ℕ) (table : ℕ → Driver) → length signals ≤ k → EquationsDone inputs signals k table
+    → (first_repeat [] (inputs ++ signals) ≡ None) × (table ≡ (λ s. driver_by (place s inputs) (place s signals)))
+equations_all inputs signals k table all done = (
+  sym done.firsts ∙ ap (λ l. first_repeat (inputs ++ take k signals) l) (drop_all k signals all),
+  fun_ext (subst (λ l. Tells inputs l table) (take_all k signals all) done.tells),
+)

@@ -3,7 +3,6 @@ use Rattle.std.proofs.Common.{◌≡◌, ◌≢◌, ℕ, zero, suc, ◌+◌, ◌
 use Rattle.std.specs.Prelude.{option_map, slice_get, is_some, is_none, find, reverse}
 use Rattle.std.proofs.lemmas.Bool.Decides.{eqb_tells}
 use Rattle.pim_net.specs.Drivers.{place}
-use Rattle.pim_net.specs.inner.Tables.{drivers_of}
 use Rattle.pim_net.specs.Depths.{deepest, equation_depth}
 use Rattle.pim_net.specs.inner.Drivers.{driver_depth, depth_by, equation_by, next_by}
 use Rattle.pim_net.specs.Faults.{walk, back_to, column_without}
@@ -21,33 +20,33 @@ equation_within (e ∷ es) zero within = (e, refl)
 equation_within (e ∷ es) (suc k) within = equation_within es k (omega arith)
 
 -- an equation whose columns all have a depth is one deeper than they
-pub step_up : (es : List Equation) (table : List Driver) (k m : ℕ) → IsWired es table → k < length es → deepest (map (deep es table) (ins es k)) ≡ Some m → suc m ≤ length es → deep es table (sig es k) ≡ Some (suc m)
+pub step_up : (es : List Equation) (table : ℕ → Driver) (k m : ℕ) → IsWired es table → k < length es → deepest (map (deep es table) (ins es k)) ≡ Some m → suc m ≤ length es → deep es table (sig es k) ≡ Some (suc m)
 step_up es table k m wired within columns_deep low =
-    let below = λ (c : ℕ). depth_by (drivers_of table) es (length es) c in
+    let below = λ (c : ℕ). depth_by table es (length es) c in
     let w = equation_within es k within in
-    let same = deepest_same (deep es table) below m (λ c l h e. depth_to (drivers_of table) es (suc l) (length es) c l (omega arith) (depth_low (drivers_of table) es (suc (length es)) c l e)) (ins es k) m (omega arith) columns_deep in
+    let same = deepest_same (deep es table) below m (λ c l h e. depth_to table es (suc l) (length es) c l (omega arith) (depth_low table es (suc (length es)) c l e)) (ins es k) m (omega arith) columns_deep in
     let there : deepest (map below w.0.cover.ins) ≡ Some m = ap (λ o. deepest (map below (columns o))) (sym w.1) ∙ same in
     ap (driver_depth below es) (wired.named k within) ∙ ap (equation_depth below) w.1 ∙ ap (option_map suc) there
 
 -- a column of an equation with a depth is less deep
-pub step_down : (es : List Equation) (table : List Driver) (k j l : ℕ) → IsWired es table → k < length es → deep es table (sig es k) ≡ Some l → j < length (ins es k) → (d : ℕ) × (d < l) × (deep es table (get_or (ins es k) j 0) ≡ Some d)
+pub step_down : (es : List Equation) (table : ℕ → Driver) (k j l : ℕ) → IsWired es table → k < length es → deep es table (sig es k) ≡ Some l → j < length (ins es k) → (d : ℕ) × (d < l) × (deep es table (get_or (ins es k) j 0) ≡ Some d)
 step_down es table k j l wired within h inside =
-    let below = λ (c : ℕ). depth_by (drivers_of table) es (length es) c in
+    let below = λ (c : ℕ). depth_by table es (length es) c in
     let w = equation_from below (slice_get es k) l (ap (driver_depth below es) (sym (wired.named k within)) ∙ h) in
     let same : ins es k ≡ w.0.cover.ins = ap columns w.2 in
     let r = deepest_at below w.0.cover.ins w.1 j w.3 (omega (arith, ap length same)) in
-    (r.0, omega (arith, w.4, r.1), ap (λ cs. deep es table (get_or cs j 0)) same ∙ depth_more (drivers_of table) es (length es) (get_or w.0.cover.ins j 0) r.0 r.2)
+    (r.0, omega (arith, w.4, r.1), ap (λ cs. deep es table (get_or cs j 0)) same ∙ depth_more table es (length es) (get_or w.0.cover.ins j 0) r.0 r.2)
 
 none_or : (o : Option ℕ) → (o ≡ None) ⊎ ((l : ℕ) × (o ≡ Some l))
 none_or None = inl refl
 none_or (Some l) = inr (l, refl)
 
-pub head_frame : (es : List Equation) (table : List Driver) (root : ℕ) (f : Frame) (trail : List Frame) → IsTrail es table root (f ∷ trail) → IsFrame es table f
+pub head_frame : (es : List Equation) (table : ℕ → Driver) (root : ℕ) (f : Frame) (trail : List Frame) → IsTrail es table root (f ∷ trail) → IsFrame es table f
 head_frame es table root f [] t = t.0
 head_frame es table root f (g ∷ trail) t = t.0
 
 -- along a trail depths fall, from a frame up to the latest
-chain : (es : List Equation) (table : List Driver) (root k l : ℕ) (f : Frame) (trail : List Frame) → IsWired es table → IsTrail es table root (f ∷ trail) → IsOnTrail k (f ∷ trail) → deep es table (sig es k) ≡ Some l → (d : ℕ) × (d ≤ l) × (deep es table (sig es f.equation) ≡ Some d)
+chain : (es : List Equation) (table : ℕ → Driver) (root k l : ℕ) (f : Frame) (trail : List Frame) → IsWired es table → IsTrail es table root (f ∷ trail) → IsOnTrail k (f ∷ trail) → deep es table (sig es k) ≡ Some l → (d : ℕ) × (d ≤ l) × (deep es table (sig es f.equation) ≡ Some d)
 chain es table root k l f [] wired t among h =
     ⊎_elim (λ (e : f.equation ≡ k). (l, (let le : l ≤ l = omega arith in le), ap (λ n. deep es table (sig es n)) e ∙ h)) (λ none. absurd none) among
 chain es table root k l f (g ∷ trail) wired t among h =
@@ -61,12 +60,12 @@ chain es table root k l f (g ∷ trail) wired t among h =
     among
 
 -- no frame's equation has a depth
-abbrev pub EachNone : List Equation → List Driver → List Frame → Type 0
+abbrev pub EachNone : List Equation → (ℕ → Driver) → List Frame → Type 0
 EachNone es table [] = Unit {0}
 EachNone es table (f ∷ trail) = (deep es table (sig es f.equation) ≡ None) × EachNone es table trail
 
 -- what reads a signal without a depth has none
-pub climb : (es : List Equation) (table : List Driver) (root : ℕ) (f : Frame) (trail : List Frame) → IsWired es table → IsTrail es table root (f ∷ trail) → deep es table (sig es f.equation) ≡ None → EachNone es table (f ∷ trail)
+pub climb : (es : List Equation) (table : ℕ → Driver) (root : ℕ) (f : Frame) (trail : List Frame) → IsWired es table → IsTrail es table root (f ∷ trail) → deep es table (sig es f.equation) ≡ None → EachNone es table (f ∷ trail)
 climb es table root f [] wired t h = (h, tt)
 climb es table root f (g ∷ trail) wired t h =
     let known = (head_frame es table root g trail t.4).known in (
@@ -80,18 +79,18 @@ climb es table root f (g ∷ trail) wired t h =
           (none_or (deep es table (sig es g.equation))),
     )
 
-pub none_among : (es : List Equation) (table : List Driver) (k : ℕ) (trail : List Frame) → EachNone es table trail → IsOnTrail k trail → deep es table (sig es k) ≡ None
+pub none_among : (es : List Equation) (table : ℕ → Driver) (k : ℕ) (trail : List Frame) → EachNone es table trail → IsOnTrail k trail → deep es table (sig es k) ≡ None
 none_among es table k [] none among = absurd among
 none_among es table k (f ∷ trail) none among =
     ⊎_elim (λ (e : f.equation ≡ k). ap (λ n. deep es table (sig es n)) (sym e) ∙ none.0) (λ (a : IsOnTrail k trail). none_among es table k trail none.1 a) among
 
-pub root_none : (es : List Equation) (table : List Driver) (root : ℕ) (trail : List Frame) → IsTrail es table root trail → EachNone es table trail → deep es table (sig es root) ≡ None
+pub root_none : (es : List Equation) (table : ℕ → Driver) (root : ℕ) (trail : List Frame) → IsTrail es table root trail → EachNone es table trail → deep es table (sig es root) ≡ None
 root_none es table root [] t none = absurd t
 root_none es table root (f ∷ []) t none = ap (λ n. deep es table (sig es n)) (sym t.1) ∙ none.0
 root_none es table root (f ∷ g ∷ trail) t none = root_none es table root (g ∷ trail) t.4 none.1
 
 -- an equation that reads one of its own trail has no depth
-pub turn : (es : List Equation) (table : List Driver) (root k : ℕ) (f : Frame) (trail : List Frame) → IsWired es table → IsTrail es table root (f ∷ trail) → IsOnTrail k (f ∷ trail) → f.column < length (ins es f.equation) → column_of es f ≡ sig es k → deep es table (sig es f.equation) ≡ None
+pub turn : (es : List Equation) (table : ℕ → Driver) (root k : ℕ) (f : Frame) (trail : List Frame) → IsWired es table → IsTrail es table root (f ∷ trail) → IsOnTrail k (f ∷ trail) → f.column < length (ins es f.equation) → column_of es f ≡ sig es k → deep es table (sig es f.equation) ≡ None
 turn es table root k f trail wired t among inside reads =
     let known = (head_frame es table root f trail t).known in
     ⊎_elim
@@ -103,17 +102,17 @@ turn es table root k f trail wired t among inside reads =
     absurd (let no : ⊥ = omega (arith, same, r.1, w.1) in no))
     (none_or (deep es table (sig es f.equation)))
 
-pub known_all : (es : List Equation) (table : List Driver) (root : ℕ) (trail : List Frame) → IsTrail es table root trail → EachKnown es trail
+pub known_all : (es : List Equation) (table : ℕ → Driver) (root : ℕ) (trail : List Frame) → IsTrail es table root trail → EachKnown es trail
 known_all es table root [] t = tt
 known_all es table root (f ∷ []) t = (t.0.known, tt)
 known_all es table root (f ∷ g ∷ trail) t = (t.0.known, known_all es table root (g ∷ trail) t.4)
 
-place_apart : (es : List Equation) (table : List Driver) (k : ℕ) (trail : List Frame) → IsWired es table → k < length es → EachKnown es trail → IsOffTrail k trail → place (sig es k) (trail_sigs es trail) ≡ None
+place_apart : (es : List Equation) (table : ℕ → Driver) (k : ℕ) (trail : List Frame) → IsWired es table → k < length es → EachKnown es trail → IsOffTrail k trail → place (sig es k) (trail_sigs es trail) ≡ None
 place_apart es table k [] wired within known apart = refl
 place_apart es table k (f ∷ trail) wired within known apart =
     ⊎_elim
     (λ (h : (eqb (sig es f.equation) (sig es k) ≡ true) × (sig es f.equation ≡ sig es k)).
-    let both : Cover f.equation ≡ Cover k = sym (wired.named f.equation known.0) ∙ ap (drivers_of table) h.1 ∙ wired.named k within in
+    let both : Cover f.equation ≡ Cover k = sym (wired.named f.equation known.0) ∙ ap table h.1 ∙ wired.named k within in
     let same : f.equation ≡ k = cc in
     absurd (apart.0 same))
     (λ (h : (eqb (sig es f.equation) (sig es k) ≡ false) × (sig es f.equation ≢ sig es k)).
@@ -150,22 +149,22 @@ column_find : (f : ℕ → Option ℕ) (o : Option Equation) → column_without 
 column_find f None = refl
 column_find f (Some e) = refl
 
-walk_on : (es : List Equation) (table : List Driver) (m s : ℕ) (walked : List ℕ) → place s walked ≡ None → walk (next_by (drivers_of table) (deep es table) es) (suc m) walked (Some s) ≡ walk (next_by (drivers_of table) (deep es table) es) m (s ∷ walked) (column_without (deep es table) (equation_by es (drivers_of table s)))
-walk_on es table m s walked h = ap (λ p. cond (is_some p) (reverse (back_to s walked)) (walk (next_by (drivers_of table) (deep es table) es) m (s ∷ walked) (column_without (deep es table) (equation_by es (drivers_of table s))))) h
+walk_on : (es : List Equation) (table : ℕ → Driver) (m s : ℕ) (walked : List ℕ) → place s walked ≡ None → walk (next_by table (deep es table) es) (suc m) walked (Some s) ≡ walk (next_by table (deep es table) es) m (s ∷ walked) (column_without (deep es table) (equation_by es (table s)))
+walk_on es table m s walked h = ap (λ p. cond (is_some p) (reverse (back_to s walked)) (walk (next_by table (deep es table) es) m (s ∷ walked) (column_without (deep es table) (equation_by es (table s))))) h
 
 -- the column where a walk goes on from a frame
-goes_on : (es : List Equation) (table : List Driver) (f : Frame) → IsWired es table → IsFrame es table f → f.column < length (ins es f.equation) → deep es table (column_of es f) ≡ None → column_without (deep es table) (equation_by es (drivers_of table (sig es f.equation))) ≡ Some (column_of es f)
+goes_on : (es : List Equation) (table : ℕ → Driver) (f : Frame) → IsWired es table → IsFrame es table f → f.column < length (ins es f.equation) → deep es table (column_of es f) ≡ None → column_without (deep es table) (equation_by es (table (sig es f.equation))) ≡ Some (column_of es f)
 goes_on es table f wired frame inside none =
     ap (λ d. column_without (deep es table) (equation_by es d)) (wired.named f.equation frame.known)
     ∙ column_find (deep es table) (slice_get es f.equation)
     ∙ find_without (deep es table) (ins es f.equation) f.column f.depth frame.depth inside none
 
 -- where nothing on the trail has a depth, the walk from its root is the trail
-walk_to : (es : List Equation) (table : List Driver) (root m : ℕ) (f : Frame) (trail : List Frame) → IsWired es table → IsTrail es table root (f ∷ trail) → EachNone es table (f ∷ trail) → m + length trail ≡ suc (length es)
-    → walk (next_by (drivers_of table) (deep es table) es) (suc (length es)) [] (Some (sig es root)) ≡ walk (next_by (drivers_of table) (deep es table) es) m (trail_sigs es trail) (Some (sig es f.equation))
+walk_to : (es : List Equation) (table : ℕ → Driver) (root m : ℕ) (f : Frame) (trail : List Frame) → IsWired es table → IsTrail es table root (f ∷ trail) → EachNone es table (f ∷ trail) → m + length trail ≡ suc (length es)
+    → walk (next_by table (deep es table) es) (suc (length es)) [] (Some (sig es root)) ≡ walk (next_by table (deep es table) es) m (trail_sigs es trail) (Some (sig es f.equation))
 walk_to es table root m f [] wired t none fuel =
     let e : suc (length es) ≡ m = omega arith in
-    ap (λ n. walk (next_by (drivers_of table) (deep es table) es) n [] (Some (sig es root))) e ∙ ap (λ n. walk (next_by (drivers_of table) (deep es table) es) m [] (Some (sig es n))) (sym t.1)
+    ap (λ n. walk (next_by table (deep es table) es) n [] (Some (sig es root))) e ∙ ap (λ n. walk (next_by table (deep es table) es) m [] (Some (sig es n))) (sym t.1)
 walk_to es table root m f (g ∷ trail) wired t none fuel =
     let frame = head_frame es table root g trail t.4 in
     let more : suc m + length trail ≡ suc (length es) = omega arith in
@@ -174,7 +173,7 @@ walk_to es table root m f (g ∷ trail) wired t none fuel =
     let fresh = place_apart es table g.equation trail wired frame.known (known_rest g trail (known_all es table root (g ∷ trail) t.4)) apart in
     let on = goes_on es table g wired frame t.1 (ap (deep es table) t.2 ∙ none.0) in
     here ∙ walk_on es table m (sig es g.equation) (trail_sigs es trail) fresh
-    ∙ ap (walk (next_by (drivers_of table) (deep es table) es) m (sig es g.equation ∷ trail_sigs es trail)) (on ∙ ap Some t.2)
+    ∙ ap (walk (next_by table (deep es table) es) m (sig es g.equation ∷ trail_sigs es trail)) (on ∙ ap Some t.2)
   where
     trail_apart : (g : Frame) (trail : List Frame) → IsTrail es table root (g ∷ trail) → IsOffTrail g.equation trail
     trail_apart g [] t = tt
@@ -184,8 +183,8 @@ walk_to es table root m f (g ∷ trail) wired t none fuel =
     known_rest g trail k = k.1
 
 -- the walk of a trail that comes round to its own equation k
-pub walk_round : (es : List Equation) (table : List Driver) (root k : ℕ) (f : Frame) (trail : List Frame) → IsWired es table → IsTrail es table root (f ∷ trail) → IsOnTrail k (f ∷ trail) → f.column < length (ins es f.equation) → column_of es f ≡ sig es k → suc (length trail) ≤ length es
-    → (deep es table (sig es root) ≡ None) × (walk (next_by (drivers_of table) (deep es table) es) (suc (length es)) [] (Some (sig es root)) ≡ reverse (back_to (sig es k) (trail_sigs es (f ∷ trail))))
+pub walk_round : (es : List Equation) (table : ℕ → Driver) (root k : ℕ) (f : Frame) (trail : List Frame) → IsWired es table → IsTrail es table root (f ∷ trail) → IsOnTrail k (f ∷ trail) → f.column < length (ins es f.equation) → column_of es f ≡ sig es k → suc (length trail) ≤ length es
+    → (deep es table (sig es root) ≡ None) × (walk (next_by table (deep es table) es) (suc (length es)) [] (Some (sig es root)) ≡ reverse (back_to (sig es k) (trail_sigs es (f ∷ trail))))
 walk_round es table root k f trail wired t among inside reads short =
     let frame = head_frame es table root f trail t in
     let none = climb es table root f trail wired t (turn es table root k f trail wired t among inside reads) in
@@ -197,8 +196,8 @@ walk_round es table root k f trail wired t among inside reads short =
     let again = place_among es k (f ∷ trail) among in (
       root_none es table root (f ∷ trail) t none,
       here ∙ walk_on es table (suc m) (sig es f.equation) (trail_sigs es trail) fresh
-          ∙ ap (walk (next_by (drivers_of table) (deep es table) es) (suc m) (trail_sigs es (f ∷ trail))) (on ∙ ap Some reads)
-          ∙ ap (λ b. cond b (reverse (back_to (sig es k) (trail_sigs es (f ∷ trail)))) (walk (next_by (drivers_of table) (deep es table) es) m (sig es k ∷ trail_sigs es (f ∷ trail)) (column_without (deep es table) (equation_by es (drivers_of table (sig es k)))))) again,
+          ∙ ap (walk (next_by table (deep es table) es) (suc m) (trail_sigs es (f ∷ trail))) (on ∙ ap Some reads)
+          ∙ ap (λ b. cond b (reverse (back_to (sig es k) (trail_sigs es (f ∷ trail)))) (walk (next_by table (deep es table) es) m (sig es k ∷ trail_sigs es (f ∷ trail)) (column_without (deep es table) (equation_by es (table (sig es k)))))) again,
     )
   where
     trail_apart : (g : Frame) (trail : List Frame) → IsTrail es table root (g ∷ trail) → IsOffTrail g.equation trail

@@ -12,7 +12,6 @@ use Rattle.std.proofs.lemmas.Option.{slice_get_past}
 use Rattle.std.proofs.lemmas.Bool.{cases_lt}
 use Rattle.pim_net.specs.Drivers.{place, sigs, driven, read}
 use Rattle.pim_net.specs.inner.Drivers.{driver, driver_by, is_nobody, depth_by, cycle_by}
-use Rattle.pim_net.specs.inner.Tables.{drivers_of}
 use Rattle.pim_net.specs.Depths.{depth}
 use Rattle.pim_net.specs.Faults.{first_repeat, undriven, cycle, fault_of}
 use Rattle.pim_net.specs.inner.Judged.{IsRefusal}
@@ -57,17 +56,13 @@ some_by (Some j) q h = inl (j, refl)
 some_by None (Some k) h = inr (k, refl)
 some_by None None h = cc
 
-pub wired : (inputs : List ℕ) (es : List Equation) (outputs : List OutRef) (table : List Driver) (size : ℕ) → first_repeat [] (driven inputs es) ≡ None → length table ≡ size → drivers_of table ≡ driver inputs es
-    → All (λ (e : Equation). All (λ s. s < size) e.cover.ins) es → find (λ s. is_nobody (drivers_of table s)) (read es outputs) ≡ None → length es < 2 ^ 28 → All (λ (e : Equation). length e.cover.ins < 2 ^ 28) es → IsWired es table
-wired inputs es outputs table size once sized same below all few narrow = record {
+pub wired : (inputs : List ℕ) (es : List Equation) (outputs : List OutRef) (table : ℕ → Driver) → first_repeat [] (driven inputs es) ≡ None → table ≡ driver inputs es
+    → find (λ s. is_nobody (table s)) (read es outputs) ≡ None → length es < 2 ^ 28 → All (λ (e : Equation). length e.cover.ins < 2 ^ 28) es → IsWired es table
+wired inputs es outputs table once same all few narrow = record {
   named = λ k within.
       let w = places inputs (sigs es) k once (omega (arith, length-map es (λ (x : Equation). x.sig))) in
       ap (λ f. f (sig es k)) same ∙ ap (λ p. driver_by p (place (sig es k) (sigs es))) w.0 ∙ ap (driver_by None) w.1;
-  in_table = λ k j within inside.
-      let w = equation_within es k within in
-      let cs : All (λ s. s < size) (ins es k) = subst (λ l. All (λ s. s < size) l) (sym (ins_read es k w.0 within)) (below k w.0 within) in
-      let one = cs j 0 inside in omega (arith, one, sized);
-  driven = λ k j within inside. column_read (λ s. is_nobody (drivers_of table s)) es outputs k j all within inside;
+  driven = λ k j within inside. column_read (λ s. is_nobody (table s)) es outputs k j all within inside;
   covers = λ s k h.
       let w = place_is s (sigs es) k (cover_by (place s inputs) (place s (sigs es)) k (sym (ap (λ f. f s) same) ∙ h)) in
       (omega (arith, w.0, length-map es (λ (x : Equation). x.sig)), w.1);
@@ -99,24 +94,24 @@ is_some_deep Open h = cc
 is_some_deep (Deep l) h = refl
 
 -- the depth of equation k is that of its mark
-marked_depth_is : (inputs : List ℕ) (es : List Equation) (table : List Driver) (marks : List Mark) (k : ℕ) → drivers_of table ≡ driver inputs es → IsLevelled es table marks → k < length es → depth inputs es (sig es k) ≡ depth_mark (mark marks k)
+marked_depth_is : (inputs : List ℕ) (es : List Equation) (table : ℕ → Driver) (marks : List Mark) (k : ℕ) → table ≡ driver inputs es → IsLevelled es table marks → k < length es → depth inputs es (sig es k) ≡ depth_mark (mark marks k)
 marked_depth_is inputs es table marks k same levelled within = depth_is inputs es (sig es k) ∙ ap (λ f. depth_by f es (suc (length es)) (sig es k)) (sym same) ∙ levelled.depths k within
 
-pub well_formed : (inputs : List ℕ) (es : List Equation) (outputs : List OutRef) (table : List Driver) (marks : List Mark) → first_repeat [] (driven inputs es) ≡ None → drivers_of table ≡ driver inputs es
-    → find (λ s. is_nobody (drivers_of table s)) (read es outputs) ≡ None → IsLevelled es table marks → IsWellFormed inputs es outputs
+pub well_formed : (inputs : List ℕ) (es : List Equation) (outputs : List OutRef) (table : ℕ → Driver) (marks : List Mark) → first_repeat [] (driven inputs es) ≡ None → table ≡ driver inputs es
+    → find (λ s. is_nobody (table s)) (read es outputs) ≡ None → IsLevelled es table marks → IsWellFormed inputs es outputs
 well_formed inputs es outputs table marks once same all levelled = record {
   once = all_apart (driven inputs es) once;
   driven = λ j d within.
       let s = get_or (read es outputs) j 0 in
-      let some : is_nobody (driver inputs es s) ≡ false = ap (λ f. is_nobody (f s)) (sym same) ∙ find_none (λ s. is_nobody (drivers_of table s)) (read es outputs) all j within in
+      let some : is_nobody (driver inputs es s) ≡ false = ap (λ f. is_nobody (f s)) (sym same) ∙ find_none (λ s. is_nobody (table s)) (read es outputs) all j within in
       subst (Contains (driven inputs es)) (get_or_default (read es outputs) j 0 d within) (contains_driven inputs (sigs es) s some);
   deep = λ k d within.
       ap (λ s. is_some (depth inputs es s)) (sym (get_or-map (λ (x : Equation). x.sig) es k d 0 within))
       ∙ ap is_some (marked_depth_is inputs es table marks k same levelled within) ∙ is_some_deep (mark marks k) (levelled.all k within);
 }
 
-pub sound : (inputs : List ℕ) (es : List Equation) (outputs : List OutRef) (table : List Driver) (marks : List Mark) → first_repeat [] (driven inputs es) ≡ None → drivers_of table ≡ driver inputs es
-    → find (λ s. is_nobody (drivers_of table s)) (read es outputs) ≡ None → IsLevelled es table marks → fault_of inputs es outputs ≡ None
+pub sound : (inputs : List ℕ) (es : List Equation) (outputs : List OutRef) (table : ℕ → Driver) (marks : List Mark) → first_repeat [] (driven inputs es) ≡ None → table ≡ driver inputs es
+    → find (λ s. is_nobody (table s)) (read es outputs) ≡ None → IsLevelled es table marks → fault_of inputs es outputs ≡ None
 sound inputs es outputs table marks once same all levelled =
     let lack = undriven_is inputs es outputs ∙ ap (λ (f : ℕ → Driver). find (λ s. is_nobody (f s)) (read es outputs)) (sym same) ∙ all in
     let round = cycle_is inputs es once ∙ ap (λ (f : ℕ → Driver). cycle_by f (λ s. depth_by f es (suc (length es)) s) es) (sym same) ∙ levelled_is es table marks levelled in
@@ -125,15 +120,15 @@ sound inputs es outputs table marks once same all levelled =
     ∙ ap (option_map Cycle) round
 
 -- the faults of the other kinds
-pub lacking : (inputs : List ℕ) (es : List Equation) (outputs : List OutRef) (table : List Driver) (s : ℕ) → first_repeat [] (driven inputs es) ≡ None → drivers_of table ≡ driver inputs es
-    → find (λ s. is_nobody (drivers_of table s)) (read es outputs) ≡ Some s → fault_of inputs es outputs ≡ Some (Undriven s)
+pub lacking : (inputs : List ℕ) (es : List Equation) (outputs : List OutRef) (table : ℕ → Driver) (s : ℕ) → first_repeat [] (driven inputs es) ≡ None → table ≡ driver inputs es
+    → find (λ s. is_nobody (table s)) (read es outputs) ≡ Some s → fault_of inputs es outputs ≡ Some (Undriven s)
 lacking inputs es outputs table s once same found =
     let lack = undriven_is inputs es outputs ∙ ap (λ (f : ℕ → Driver). find (λ s. is_nobody (f s)) (read es outputs)) (sym same) ∙ found in
     ap (λ o. option_or (option_map Twice o) (option_or (option_map Undriven (undriven inputs es outputs)) (option_map Cycle (cycle inputs es)))) once
     ∙ ap (λ o. option_or (option_map Undriven o) (option_map Cycle (cycle inputs es))) lack
 
-pub round : (inputs : List ℕ) (es : List Equation) (outputs : List OutRef) (table : List Driver) (signals : List ℕ) → first_repeat [] (driven inputs es) ≡ None → drivers_of table ≡ driver inputs es
-    → find (λ s. is_nobody (drivers_of table s)) (read es outputs) ≡ None → cycle_by (drivers_of table) (deep es table) es ≡ Some signals → fault_of inputs es outputs ≡ Some (Cycle signals)
+pub round : (inputs : List ℕ) (es : List Equation) (outputs : List OutRef) (table : ℕ → Driver) (signals : List ℕ) → first_repeat [] (driven inputs es) ≡ None → table ≡ driver inputs es
+    → find (λ s. is_nobody (table s)) (read es outputs) ≡ None → cycle_by table (deep es table) es ≡ Some signals → fault_of inputs es outputs ≡ Some (Cycle signals)
 round inputs es outputs table signals once same all found =
     let lack = undriven_is inputs es outputs ∙ ap (λ (f : ℕ → Driver). find (λ s. is_nobody (f s)) (read es outputs)) (sym same) ∙ all in
     let round = cycle_is inputs es once ∙ ap (λ (f : ℕ → Driver). cycle_by f (λ s. depth_by f es (suc (length es)) s) es) (sym same) ∙ found in
@@ -146,7 +141,7 @@ pub topo_within : (n : ℕ) (topo : List ℕ) → IsPermutation (range_with_len 
 topo_within n topo once = All-permutation (λ k. k < n) (range_with_len 0 n) topo once
     (λ i d within. let inside : i < n = omega (arith, length-range_with_len 0 n) in let is = get_or-range_with_len 0 n i d inside in omega (arith, is))
 
-pub by_depth : (inputs : List ℕ) (es : List Equation) (table : List Driver) (marks : List Mark) (topo : List ℕ) → drivers_of table ≡ driver inputs es → IsLevelled es table marks → IsPermutation (range_with_len 0 (length marks)) topo
+pub by_depth : (inputs : List ℕ) (es : List Equation) (table : ℕ → Driver) (marks : List Mark) (topo : List ℕ) → table ≡ driver inputs es → IsLevelled es table marks → IsPermutation (range_with_len 0 (length marks)) topo
     → ((i : ℕ) → i + 1 < length topo → IsBefore marks (get_or topo i 0) (get_or topo (i + 1) 0)) → IsByDepth inputs es topo
 by_depth inputs es table marks topo same levelled once rising =
     let whole : IsPermutation (range_with_len 0 (length es)) topo = subst (λ n. IsPermutation (range_with_len 0 n) topo) levelled.sized once in
@@ -180,7 +175,7 @@ deep_level New h = cc
 deep_level Open h = cc
 deep_level (Deep l) h = (l, refl)
 
-pub ready : (inputs : List ℕ) (es : List Equation) (table : List Driver) (marks : List Mark) (topo : List ℕ) → IsWired es table → drivers_of table ≡ driver inputs es → IsLevelled es table marks → IsPermutation (range_with_len 0 (length marks)) topo
+pub ready : (inputs : List ℕ) (es : List Equation) (table : ℕ → Driver) (marks : List Mark) (topo : List ℕ) → IsWired es table → table ≡ driver inputs es → IsLevelled es table marks → IsPermutation (range_with_len 0 (length marks)) topo
     → ((i : ℕ) → i + 1 < length topo → IsBefore marks (get_or topo i 0) (get_or topo (i + 1) 0)) → IsReadyOrder inputs es topo
 ready inputs es table marks topo wired same levelled once rising = λ i h.
     let whole : IsPermutation (range_with_len 0 (length es)) topo = subst (λ n. IsPermutation (range_with_len 0 n) topo) levelled.sized once in
@@ -214,8 +209,8 @@ ready inputs es table marks topo wired same levelled once rising = λ i h.
     (some_by (place c inputs) (place c (sigs es)) some))
 
 -- a cycle by the table is the cycle of the parts
-pub refused : (inputs : List ℕ) (es : List Equation) (outputs : List OutRef) (table : List Driver) (fault : NetFault) → first_repeat [] (driven inputs es) ≡ None → drivers_of table ≡ driver inputs es
-    → find (λ s. is_nobody (drivers_of table s)) (read es outputs) ≡ None → IsCycleFault es table fault → IsRefusal inputs es outputs fault
+pub refused : (inputs : List ℕ) (es : List Equation) (outputs : List OutRef) (table : ℕ → Driver) (fault : NetFault) → first_repeat [] (driven inputs es) ≡ None → table ≡ driver inputs es
+    → find (λ s. is_nobody (table s)) (read es outputs) ≡ None → IsCycleFault es table fault → IsRefusal inputs es outputs fault
 refused inputs es outputs table (Twice s) once same all h = absurd h
 refused inputs es outputs table (Undriven s) once same all h = absurd h
 refused inputs es outputs table (Cycle cycle) once same all h = inr (round inputs es outputs table cycle once same all h.0)

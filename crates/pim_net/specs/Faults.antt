@@ -7,7 +7,7 @@ use Rattle.pim_net.specs.Depths.{depth}
 use Rattle.pim_net.specs.declared.parts.Equation.{Equation}
 use Rattle.pim_net.specs.declared.parts.OutRef.{OutRef}
 use Rattle.pim_net.specs.declared.fault.NetFault.{NetFault}
-use Rattle.pim_net.specs.declared.fault.NetFault.TheVariants.{Twice, Undriven, Cycle}
+use Rattle.pim_net.specs.declared.fault.NetFault.TheVariants.{Twice, Undriven, Cycle, NoMemory}
 
 -- the first of these signals that also stands before it
 abbrev pub first_repeat : List ℕ → List ℕ → Option ℕ
@@ -49,6 +49,13 @@ abbrev pub cycle : List ℕ → List Equation → Option (List ℕ)
 cycle inputs equations =
     option_map (λ e. walk (next_signal inputs equations) (suc (length equations)) [] (Some e.sig))
     (find (λ e. is_none (depth inputs equations e.sig)) equations)
+
+-- the signals that a fault names, in order
+abbrev pub signals_of : NetFault → List ℕ
+signals_of (Twice s) = s ∷ []
+signals_of (Undriven s) = s ∷ []
+signals_of (Cycle signals) = signals
+signals_of NoMemory = []
 
 -- the fault of these parts: a second driver before a lack of one, and that before a cycle
 abbrev pub fault_of : List ℕ → List Equation → List OutRef → Option NetFault

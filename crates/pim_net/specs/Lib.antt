@@ -7,6 +7,7 @@ pub mod Labels
 pub mod Laws
 pub mod Netlist
 pub mod Order
+pub mod Tables
 pub mod Values
 pub mod WellFormed
 pub mod inner

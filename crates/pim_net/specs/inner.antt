@@ -2,4 +2,3 @@
 pub mod DepthFirst
 pub mod Drivers
 pub mod Judged
-pub mod Tables

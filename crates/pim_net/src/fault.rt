@@ -1,6 +1,7 @@
 use crate::Signals;
 use pim_io::NoMemory;
 use std::alloc::{AllocError, AllocFailed};
+use std::slice;
 use thiserror::Error;
 
 /// Why a draft is no netlist.
@@ -19,6 +20,22 @@ pub enum NetFault {
     /// There was no memory.
     #[error("no memory")]
     NoMemory,
+}
+
+impl NetFault {
+    ghost use Rattle.std.specs.Prelude.{◌≡◌};
+    ghost use Rattle.pim_net.specs.Faults.{signals_of};
+
+    /// The signals that the fault names: those of a cycle in order, and else one or none.
+    pub fn signals(&self) -> &[u32]
+        ensures { result.now ≡ signals_of self.now }
+    {
+        match self {
+            NetFault::Twice(sig) | NetFault::Undriven(sig) => slice::from_ref(sig),
+            NetFault::Cycle(signals) => signals.list(),
+            NetFault::NoMemory => &[],
+        }
+    }
 }
 
 impl From<NoMemory> for NetFault {

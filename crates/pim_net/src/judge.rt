@@ -4,7 +4,6 @@ ghost use Rattle.pim_net.specs.inner.Judged.{IsJudged, IsRefusal};
 ghost use Rattle.pim_net.specs.declared.limits.TheConstants.{MAX_COLUMNS, MAX_EQUATIONS, MAX_SIGNALS};
 ghost use Rattle.pim_net.specs.declared.fault.NetFault.TheVariants.{Cycle};
 
-use crate::count::signal_count;
 use crate::levels::levels;
 use crate::table::drivers;
 use crate::topo::by_depth;
@@ -12,8 +11,8 @@ use crate::undriven::undriven;
 use crate::{Equation, NetFault, OutRef};
 use std::alloc::Global;
 
-/// The numbers of the equations by depth and then in order, or the fault of these parts. Linear in the parts and the
-/// greatest signal.
+/// The numbers of the equations by depth and then in order, or the fault of these parts. Expected linear in the
+/// parts, however great the signals are.
 pub(crate) fn judge(
     alloc: Global,
     inputs: &[u32],
@@ -28,12 +27,11 @@ pub(crate) fn judge(
         (IsRefusal inputs.now equations.now outputs.now) }
     ensures cycle { IfErr result (λ fault. (signals : List ℕ) → fault ≡ Cycle signals → IsCycle equations.now signals) }
 {
-    let size = signal_count(inputs, equations, outputs);
-    let table = drivers(alloc, inputs, equations, size)?;
-    if let Some(sig) = undriven(equations, outputs, table.as_slice()) {
+    let table = drivers(alloc, inputs, equations)?;
+    if let Some(sig) = undriven(equations, outputs, &table) {
         return Err(NetFault::Undriven(sig));
     }
-    let marks = levels(alloc, equations, table.as_slice())?;
+    let marks = levels(alloc, equations, &table)?;
     let topo = by_depth(alloc, marks.as_slice())?;
     Ok(topo)
 }

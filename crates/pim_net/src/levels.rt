@@ -1,10 +1,11 @@
 ghost use Rattle.std.specs.Prelude.{◌≡◌, MatchResult};
+ghost use Rattle.pim_net.specs.Tables.{values};
 ghost use Rattle.pim_net.specs.inner.DepthFirst.{IsWired, IsLevelled, IsCycleFault, is_new};
 
 use crate::driver::Driver;
 use crate::mark::Mark;
 use crate::visit::visit;
-use crate::{Equation, NetFault};
+use crate::{Equation, NetFault, SignalTable};
 use std::alloc::Global;
 
 /// The depths of all equations, in order, or the cycle that a walk from the first equation without a depth comes to.
@@ -12,12 +13,12 @@ use std::alloc::Global;
 pub(crate) fn levels(
     alloc: Global,
     equations: &[Equation],
-    table: &[Driver],
+    table: &SignalTable<Driver>,
 ) -> Result<Vec<Mark>, NetFault>
-    requires { IsWired equations.now table.now }
+    requires { IsWired equations.now (values table.now) }
     ensures { MatchResult result
-        (λ marks. IsLevelled equations.now table.now marks.items)
-        (IsCycleFault equations.now table.now) }
+        (λ marks. IsLevelled equations.now (values table.now) marks.items)
+        (IsCycleFault equations.now (values table.now)) }
 {
     let mut marks = vec![in alloc; Mark::New; equations.len()]?;
     let mut path = Vec::new(alloc);

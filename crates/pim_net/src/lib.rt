@@ -2,7 +2,6 @@
 //! driver and a depth, with its equations ordered by depth, or the first fault with its evidence.
 #![tactic(auto)]
 
-mod count;
 mod cover;
 mod draft;
 mod driver;
@@ -15,6 +14,7 @@ mod mark;
 mod names;
 mod net;
 mod parts;
+mod signal_table;
 mod signals;
 mod table;
 #[cfg(test)]
@@ -31,4 +31,5 @@ pub use limits::{MAX_COLUMNS, MAX_EQUATIONS, MAX_OUTPUTS, MAX_ROWS, MAX_SIGNALS}
 pub use names::Names;
 pub use net::Net;
 pub use parts::{Equation, OutRef};
+pub use signal_table::SignalTable;
 pub use signals::Signals;

@@ -1,4 +1,4 @@
-ghost use Rattle.std.specs.Prelude.{◌≡◌, ◌<◌, ◌≤◌, ◌+◌, ◌++◌, ◌∷◌, [], length, OnOk, OnErr, Some, option_map, slice_get};
+ghost use Rattle.std.specs.Prelude.{◌≡◌, ◌<◌, ◌≤◌, ◌+◌, ◌++◌, ◌∷◌, [], length, OnOk, OnErr, Some, slice_get};
 ghost use Rattle.pim_io.specs.Names.{label};
 ghost use Rattle.pim_net.specs.Labels.{IsName};
 
@@ -6,7 +6,7 @@ use pim_io::{Name, NoMemory};
 use std::alloc::Global;
 use std::marker::Model;
 
-/// The labels of signals, one per signal, in the order of their numbers.
+/// Labels of signals, in order.
 #[derive(Debug, Drop)]
 pub struct Names {
     labels: Vec<Name>,
@@ -46,21 +46,20 @@ impl Names {
         Ok(())
     }
 
-    /// The label of a signal: 1 to 4,096 bytes.
-    pub fn get(&self, sig: u32) -> &[u8]
-        requires { sig < length self.now }
-        ensures label { slice_get self.now sig ≡ Some result.now }
+    /// Label k: 1 to 4,096 bytes.
+    pub fn get(&self, k: u32) -> &[u8]
+        requires { k < length self.now }
+        ensures label { slice_get self.now k ≡ Some result.now }
         ensures bytes { IsName result.now }
         ensures same { label result.now ≡ result.now }
     {
-        self.labels[sig as usize].bytes()
+        self.labels[k as usize].bytes()
     }
 
-    /// The label of a signal, where there is one of that number.
-    pub fn find(&self, sig: u32) -> Option<&[u8]>
-        ensures { option_map (λ label. label.now) result ≡ slice_get self.now sig }
+    /// All labels.
+    pub fn list(&self) -> &[Name]
+        ensures { result.now ≡ self.now }
     {
-        let name = self.labels.get(sig as usize)?;
-        Some(name.bytes())
+        self.labels.as_slice()
     }
 }

@@ -2,7 +2,6 @@ ghost use Rattle.std.specs.Prelude.{◌≡◌, ◌<◌, ◌≤◌, ◌⊎◌, �
 ghost use Rattle.pim_io.specs.Names.{label};
 ghost use Rattle.pim_net.specs.Labels.{IsName};
 
-use crate::count::signal_count;
 use crate::judge::judge;
 use crate::{Draft, Equation, Names, NetFault, OutRef};
 use std::alloc::Global;
@@ -55,7 +54,7 @@ impl Net {
 
     /// Judges a draft: it is a netlist where each signal has at most one driver, each signal that is read has one, and
     /// each equation has a depth. A netlist keeps the draft's lists; a refusal is the draft's one fault, and the signals of
-    /// a cycle are one. Linear in the size of the draft and its greatest signal.
+    /// a cycle are one. Expected linear in the size of the draft, however great the numbers of its signals are.
     pub fn check(alloc: Global, draft: Draft) -> Result<Net, NetFault>
         ensures kept { IfOk result (λ net. draft_of net ≡ draft) }
         ensures accepted { OnOk result (net_fault draft ≡ None) }
@@ -129,18 +128,6 @@ impl Net {
         ensures same { label result.now ≡ result.now }
     {
         self.output_labels.get(k)
-    }
-
-    /// One more than the greatest signal that is driven or read, 0 where there is none. Linear in the parts.
-    pub fn signal_count(&self) -> usize
-        ensures inputs { All (λ s. s < result) self.now.inputs }
-        ensures equations { All (λ e. e.sig < result) self.now.equations }
-        ensures columns { All (λ e. All (λ s. s < result) e.cover.ins) self.now.equations }
-        ensures outputs { All (λ o. o.sig < result) self.now.outputs }
-        ensures least { (n : ℕ) → All (λ s. s < n) self.now.inputs → All (λ e. e.sig < n) self.now.equations
-            → All (λ e. All (λ s. s < n) e.cover.ins) self.now.equations → All (λ o. o.sig < n) self.now.outputs → result ≤ n }
-    {
-        signal_count(&self.inputs, &self.equations, &self.outputs)
     }
 
     /// The numbers of the equations, by depth and then in order.

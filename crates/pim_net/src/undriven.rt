@@ -1,17 +1,19 @@
-ghost use Rattle.std.specs.Prelude.{◌≡◌, ◌<◌, All, length, find};
+ghost use Rattle.std.specs.Prelude.{◌≡◌, find};
 ghost use Rattle.pim_net.specs.Drivers.{read};
 ghost use Rattle.pim_net.specs.inner.Drivers.{is_nobody};
-ghost use Rattle.pim_net.specs.inner.Tables.{drivers_of};
+ghost use Rattle.pim_net.specs.Tables.{values};
 
 use crate::driver::Driver;
-use crate::{Equation, OutRef};
+use crate::{Equation, OutRef, SignalTable};
 
 /// The first signal that is read and that the table gives nobody: by equations and their columns in order, and then by
 /// outputs in order. Linear in the columns and the outputs.
-pub(crate) fn undriven(equations: &[Equation], outputs: &[OutRef], table: &[Driver]) -> Option<u32>
-    requires columns_below { All (λ e. All (λ s. s < length table.now) e.cover.ins) equations.now }
-    requires outputs_below { All (λ o. o.sig < length table.now) outputs.now }
-    ensures { result ≡ find (λ s. is_nobody (drivers_of table.now s)) (read equations.now outputs.now) }
+pub(crate) fn undriven(
+    equations: &[Equation],
+    outputs: &[OutRef],
+    table: &SignalTable<Driver>,
+) -> Option<u32>
+    ensures { result ≡ find (λ s. is_nobody (values table.now s)) (read equations.now outputs.now) }
 {
     'equations: for equation in equations {
         if let Some(sig) = undriven_column(equation.cover.ins(), table) {
@@ -27,9 +29,8 @@ pub(crate) fn undriven(equations: &[Equation], outputs: &[OutRef], table: &[Driv
 }
 
 /// The first of these columns that the table gives nobody.
-fn undriven_column(columns: &[u32], table: &[Driver]) -> Option<u32>
-    requires { All (λ s. s < length table.now) columns.now }
-    ensures { result ≡ find (λ s. is_nobody (drivers_of table.now s)) columns.now }
+fn undriven_column(columns: &[u32], table: &SignalTable<Driver>) -> Option<u32>
+    ensures { result ≡ find (λ s. is_nobody (values table.now s)) columns.now }
 {
     'columns: for sig in columns {
         if is_undriven(*sig, table) {
@@ -40,9 +41,8 @@ fn undriven_column(columns: &[u32], table: &[Driver]) -> Option<u32>
 }
 
 /// Whether the table gives a signal nobody.
-fn is_undriven(sig: u32, table: &[Driver]) -> bool
-    requires { sig < length table.now }
-    ensures { result ≡ is_nobody (drivers_of table.now sig) }
+fn is_undriven(sig: u32, table: &SignalTable<Driver>) -> bool
+    ensures { result ≡ is_nobody (values table.now sig) }
 {
-    matches!(table[sig as usize], Driver::Nobody)
+    matches!(table.at(sig), Driver::Nobody)
 }

@@ -1,11 +1,12 @@
 ghost use Rattle.std.specs.Prelude.{◌≡◌, ◌<◌, ◌≤◌, [], ◌∷◌, length, IfOk, IfErr, reverse};
 ghost use Rattle.pim_net.specs.Faults.{back_to};
+ghost use Rattle.pim_net.specs.Tables.{values};
 ghost use Rattle.pim_net.specs.inner.DepthFirst.{ins, sig, mark, EachKnown, IsWired, IsStep, IsMarked, IsVisited, IsRound, trail_sigs};
 ghost use Rattle.pim_net.specs.declared.mark.Mark.TheVariants.{New};
 
 use crate::driver::Driver;
 use crate::mark::{Frame, Mark, Step};
-use crate::{Equation, NetFault, Signals};
+use crate::{Equation, NetFault, SignalTable, Signals};
 use pim_io::NoMemory;
 use std::alloc::Global;
 
@@ -14,19 +15,19 @@ use std::alloc::Global;
 pub(crate) fn visit(
     alloc: Global,
     equations: &[Equation],
-    table: &[Driver],
+    table: &SignalTable<Driver>,
     marks: &mut Vec<Mark>,
     path: &mut Vec<Frame>,
     root: u32,
 ) -> Result<(), NetFault>
-    requires wired { IsWired equations.now table.now }
-    requires marked { IsMarked equations.now table.now marks.old.items [] }
+    requires wired { IsWired equations.now (values table.now) }
+    requires marked { IsMarked equations.now (values table.now) marks.old.items [] }
     requires fresh { path.old.items ≡ [] }
     requires known { root < length equations.now }
     requires new { mark marks.old.items root ≡ New }
-    ensures visited { IfOk result (λ _. IsVisited equations.now table.now root marks.old.items marks.new.items) }
+    ensures visited { IfOk result (λ _. IsVisited equations.now (values table.now) root marks.old.items marks.new.items) }
     ensures emptied { IfOk result (λ _. path.new.items ≡ []) }
-    ensures round { IfErr result (IsRound equations.now table.now root) }
+    ensures round { IfErr result (IsRound equations.now (values table.now) root) }
 {
     let mut at = Frame {
         equation: root,
@@ -94,19 +95,19 @@ fn trail_back(
 }
 
 /// What the search meets next at a frame.
-fn next(equations: &[Equation], table: &[Driver], marks: &[Mark], at: Frame) -> Step
-    requires wired { IsWired equations.now table.now }
+fn next(equations: &[Equation], table: &SignalTable<Driver>, marks: &[Mark], at: Frame) -> Step
+    requires wired { IsWired equations.now (values table.now) }
     requires sized { length marks.now ≡ length equations.now }
     requires known { at.equation < length equations.now }
     requires within { at.column ≤ length (ins equations.now at.equation) }
-    ensures { IsStep equations.now table.now marks.now at result }
+    ensures { IsStep equations.now (values table.now) marks.now at result }
 {
     let columns = equations[at.equation as usize].cover.ins();
     let column = at.column as usize;
     if column == columns.len() {
         return Step::Done;
     }
-    match table[columns[column] as usize] {
+    match table.at(columns[column]) {
         Driver::Nobody => unreachable!(),
         Driver::Input(_) => Step::Past(0),
         Driver::Cover(k) => match marks[k as usize] {

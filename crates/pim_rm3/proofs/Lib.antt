@@ -1,4 +1,6 @@
 pub mod AndLists
+pub mod Bounds
+mod Examples
 pub mod Counts
 pub mod Finished
 pub mod Fitting

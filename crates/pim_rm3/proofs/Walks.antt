@@ -166,9 +166,14 @@ pub option_cases : (o : Option ℕ) → (o ≡ None) ⊎ ((c : ℕ) × (o ≡ So
 option_cases None = inl refl
 option_cases (Some c) = inr (c, refl)
 
+-- the plain literal of an AND node
+pub record IsPlainAnd (g : AigView) (l : ℕ) : Type 0 where
+  pub even : l % 2 ≡ 0
+  pub above : g.inputs < l / 2
+
 -- only AND nodes are read
-with_and_above : (g : AigView) (gs : List ℕ) (e : Lit) (y : ℕ) → (has gs y ≡ true → g.inputs < y / 2) → has (with_and g gs e) y ≡ true → g.inputs < y / 2
-with_and_above g gs e y old h = elim (leb_tells (e.0 / 2) g.inputs) [
+with_and_plain : (g : AigView) (gs : List ℕ) (e : Lit) (y : ℕ) → (has gs y ≡ true → IsPlainAnd g y) → has (with_and g gs e) y ≡ true → IsPlainAnd g y
+with_and_plain g gs e y old h = elim (leb_tells (e.0 / 2) g.inputs) [
   | inl i ↦
       let t : nat_lt g.inputs (e.0 / 2) ≡ false = let b = i.1 in grind (arith, nat_tests) in
       old (sym (ap (λ (b : Bool). has (cond b (cond (has gs (2 * (e.0 / 2))) gs (gs ++ 2 * (e.0 / 2) ∷ [])) gs) y) t) ∙ h)
@@ -179,16 +184,16 @@ with_and_above g gs e y old h = elim (leb_tells (e.0 / 2) g.inputs) [
         | inl u ↦ old (sym (ap (λ (b : Bool). has (cond b gs (gs ++ 2 * (e.0 / 2) ∷ [])) y) u) ∙ h')
         | inr u ↦ elim (split gs (2 * (e.0 / 2)) y (sym (ap (λ (b : Bool). has (cond b gs (gs ++ 2 * (e.0 / 2) ∷ [])) y) u) ∙ h')) [
           | inl q ↦ old q
-          | inr s ↦ omega (arith, a.1)
+          | inr s ↦ record { even = omega arith; above = omega (arith, a.1) }
         ]
       ]
 ]
 
-read_above : (g : AigView) (t : Gate) (y : ℕ) → has (ands_read g t) y ≡ true → g.inputs < y / 2
-read_above g (gate.Constant b) y h = absurd (false≢true h)
-read_above g gate.Input y h = absurd (false≢true h)
-read_above g (gate.Not m) y h = with_and_above g [] m y (λ n. absurd (false≢true n)) h
-read_above g (gate.And x z) y h = with_and_above g (with_and g [] x) z y (λ n. with_and_above g [] x y (λ k. absurd (false≢true k)) n) h
+read_plain : (g : AigView) (t : Gate) (y : ℕ) → has (ands_read g t) y ≡ true → IsPlainAnd g y
+read_plain g (gate.Constant b) y h = absurd (false≢true h)
+read_plain g gate.Input y h = absurd (false≢true h)
+read_plain g (gate.Not m) y h = with_and_plain g [] m y (λ n. absurd (false≢true n)) h
+read_plain g (gate.And x z) y h = with_and_plain g (with_and g [] x) z y (λ n. with_and_plain g [] x y (λ k. absurd (false≢true k)) n) h
 
 -- no input is a root
 root_gate : (g : AigView) (os : List Lit) (roots : List ℕ) (y : ℕ) → (has roots y ≡ true → is_input g (record { 0 = y }) ≡ false) → has (fold (with_root g) roots os) y ≡ true → is_input g (record { 0 = y }) ≡ false
@@ -222,16 +227,20 @@ get_or_past (k ∷ ks) (suc r) h = get_or_past ks r (omega arith)
 kids_past : (g : AigView) (r y : ℕ) → has (kids_of (gate_graph g) r) y ≡ true → (r < 2 * nodes g) ⊎ (2 * nodes g ≤ r)
 kids_past g r y h = grind arith
 
--- no input is a gate of the order
-pub not_input : (g : AigView) (l : ℕ) → l < 2 * nodes g → IsReached (gate_graph g) l → 0 < l / 2 → l % 2 ≡ 0 → l / 2 ≤ g.inputs → ⊥
-not_input g l there (as_root h) some even few =
-    false≢true (sym (root_gate g g.outputs [] l (λ n. absurd (false≢true n)) h) ∙ input_is g l some even few)
-not_input g l there (as_child {reader = r} before h) some even few = elim (kids_past g r l h) [
-  | inl b ↦ let above = read_above g (gate_of g r) l (ap (λ (xs : List ℕ). has xs l) (sym (kids_at g r b)) ∙ h) in omega arith
+-- a gate that another one reads is an AND node
+pub kid_plain : (g : AigView) (r l : ℕ) → has (kids_of (gate_graph g) r) l ≡ true → IsPlainAnd g l
+kid_plain g r l h = elim (kids_past g r l h) [
+  | inl b ↦ read_plain g (gate_of g r) l (ap (λ (xs : List ℕ). has xs l) (sym (kids_at g r b)) ∙ h)
   | inr past ↦
       let count = length-map-range_with_len (λ k. ands_read g (gate_of g k)) 0 (2 * nodes g) in
       absurd (false≢true (ap (λ (xs : List ℕ). has xs l) (sym (get_or_past (gate_graph g).kids r (omega arith))) ∙ h))
 ]
+
+-- no input is a gate of the order
+pub not_input : (g : AigView) (l : ℕ) → l < 2 * nodes g → IsReached (gate_graph g) l → 0 < l / 2 → l % 2 ≡ 0 → l / 2 ≤ g.inputs → ⊥
+not_input g l there (as_root h) some even few =
+    false≢true (sym (root_gate g g.outputs [] l (λ n. absurd (false≢true n)) h) ∙ input_is g l some even few)
+not_input g l there (as_child {reader = r} before h) some even few = let k = kid_plain g r l h in omega (arith, k.above)
 
 second_one : (g : AigView) (l c : ℕ) → IsTakenOver g l c → (c ≡ (and_of g (l / 2 - 1 - g.inputs)).x.0 → ⊥) → c ≡ (and_of g (l / 2 - 1 - g.inputs)).y.0
 second_one g l c (by_first even above same single) other = absurd (other same)

@@ -1,5 +1,5 @@
 -- How many cycles the gates of a graph take, and how many cells.
-use Rattle.std.specs.Prelude.{ℕ, ◌+◌, Option, Some, None, sum_by}
+use Rattle.std.specs.Prelude.{ℕ, ◌+◌, ◌/◌, ◌%◌, ◌==◌, ◌||◌, Bool, Option, Some, None, count_by, length, sum_by}
 use Rattle.pim_aig.specs.Graph.{AigView}
 use Rattle.pim_graph.specs.Peaks.{peak}
 use Rattle.pim_rm3.specs.declared.gate.Gate.{Gate}
@@ -21,3 +21,16 @@ rm3_cost g = sum_by (λ l. cost_of (taken g l) (gate_of g l)) (gates g)
 -- the cells of the inputs, and as many as the order of the gates holds values at once
 abbrev pub needed_of : AigView → ℕ
 needed_of g = g.inputs + peak (gate_graph g) (gates g)
+
+-- the literal is a complement or a constant, and so takes a gate of its own where it is an output
+abbrev pub is_made : ℕ → Bool
+is_made l = (l % 2 == 1) || (l / 2 == 0)
+
+-- how many distinct outputs are so
+abbrev pub made_outputs : AigView → ℕ
+made_outputs g = count_by is_made (gate_graph g).roots
+
+-- the graph needs so many cells at most: one for each input, each AND node, and each distinct output that is a complement or a
+-- constant
+abbrev pub coarse_of : AigView → ℕ
+coarse_of g = g.inputs + length g.ands + made_outputs g

@@ -1,6 +1,7 @@
 ghost use Rattle.std.specs.Prelude.{◌≡◌, ◌*◌, ◌<◌, ◌≤◌, ◌∷◌, ◌++◌, ◌^◌, All, length, map, slice_index, OnOk};
 ghost use Rattle.pim_aig.specs.Graph.{nodes};
 ghost use Rattle.pim_isa.specs.PortLists.{input_ports};
+ghost use Rattle.pim_isa.specs.declared.instr.Instr.TheVariants as instr_is;
 ghost use Rattle.pim_rm3.specs.Gates.{gate_of, gates, taken};
 ghost use Rattle.pim_rm3.specs.declared.gate.Gate.TheVariants as gate_is;
 ghost use Rattle.pim_rm3.specs.Schedules.{cell_of, gate_instrs, is_inverted, load, narrow, narrow_by, operand_of, output_cell, output_ports, schedule, set_to, settled};
@@ -64,6 +65,13 @@ fn settled(aig: &Aig, cells: &[u32], z: u32, literal: Lit) -> Lit
     }
 }
 
+/// The instruction that makes a cell the majority of an operand, the complement of another one, and what it holds.
+fn rm3(p: Operand, q: Operand, z: u32) -> Instr
+    ensures { result ≡ instr_is.Rm3 p q z }
+{
+    Instr::Rm3 { p, q, z }
+}
+
 /// The instruction that makes a cell the AND of what it holds and a literal that lies elsewhere.
 fn narrow_by(aig: &Aig, cells: &[u32], z: u32, literal: Lit) -> Instr
     requires cells { length cells.now ≡ 2 * nodes aig.now }
@@ -72,17 +80,9 @@ fn narrow_by(aig: &Aig, cells: &[u32], z: u32, literal: Lit) -> Instr
 {
     if is_inverted(literal) {
         let q = Operand::Cell(cell_of(aig, cells, literal));
-        return Instr::Rm3 {
-            p: Operand::Zero,
-            q,
-            z,
-        };
+        return rm3(Operand::Zero, q, z);
     }
-    Instr::Rm3 {
-        p: operand_of(aig, cells, literal),
-        q: Operand::One,
-        z,
-    }
+    rm3(operand_of(aig, cells, literal), Operand::One, z)
 }
 
 /// The instruction that makes a cell the AND of what it holds and a literal.
@@ -99,17 +99,9 @@ fn set_to(bit: bool, z: u32) -> Instr
     ensures { result ≡ set_to bit z }
 {
     if bit {
-        Instr::Rm3 {
-            p: Operand::One,
-            q: Operand::Zero,
-            z,
-        }
+        rm3(Operand::One, Operand::Zero, z)
     } else {
-        Instr::Rm3 {
-            p: Operand::Zero,
-            q: Operand::One,
-            z,
-        }
+        rm3(Operand::Zero, Operand::One, z)
     }
 }
 
@@ -128,18 +120,10 @@ fn add_load(
     if is_inverted(literal) {
         let q = Operand::Cell(cell_of(aig, cells, literal));
         draft.add(set_to(true, z))?;
-        return draft.add(Instr::Rm3 {
-            p: Operand::Zero,
-            q,
-            z,
-        });
+        return draft.add(rm3(Operand::Zero, q, z));
     }
     draft.add(set_to(false, z))?;
-    draft.add(Instr::Rm3 {
-        p: operand_of(aig, cells, literal),
-        q: Operand::Zero,
-        z,
-    })
+    draft.add(rm3(operand_of(aig, cells, literal), Operand::Zero, z))
 }
 
 /// Adds the instructions of the AND of two literals: on the cell of the one that is taken over, else on a cell of its own.

@@ -15,4 +15,4 @@ mod tests;
 pub use cost::rm3_cost;
 pub use gate::Gate;
 pub use refusal::Refusal;
-pub use schedule::base;
+pub use schedule::{base, needed};

@@ -6,11 +6,12 @@ ghost use Rattle.pim_graph.specs.Graphs.{has};
 ghost use Rattle.pim_graph.specs.Orders.{IsReached};
 ghost use Rattle.pim_graph.specs.Peaks.{IsPlaced};
 ghost use Rattle.pim_isa.specs.PortLists.{labels_of};
+ghost use Rattle.pim_isa.specs.Primed.{IsPrimed};
 ghost use Rattle.pim_isa.specs.Realizes.{Realizes};
 ghost use Rattle.pim_isa.specs.declared.target.Target.TheVariants as target_is;
-ghost use Rattle.pim_rm3.specs.Costs.{needed_of, rm3_cost};
+ghost use Rattle.pim_rm3.specs.Costs.{coarse_of, needed_of, rm3_cost};
 ghost use Rattle.pim_rm3.specs.Gates.{gate_graph, gates, taken};
-ghost use Rattle.pim_rm3.specs.Refusals.{IsRefusalFor};
+ghost use Rattle.pim_rm3.specs.Refusals.{AsksAtMost, IsRefusalFor};
 ghost use Rattle.pim_rm3.specs.Schedules.{program_of};
 
 use crate::Refusal;
@@ -18,7 +19,7 @@ use crate::emit::{add_gates, add_inputs, add_outputs};
 use crate::gate_graph::gate_graph;
 use crate::over::all_taken;
 use pim_aig::Aig;
-use pim_graph::{Allotment, allot, order, peak};
+use pim_graph::{Allotment, Graph, allot, order, peak};
 use pim_io::NoMemory;
 use pim_isa::{MAX_CELLS, Ports, Program, ProgramDraft, Target};
 use std::alloc::Global;
@@ -48,7 +49,9 @@ pub fn base(alloc: Global, aig: &Aig, ports: &Ports, budget: u32) -> Result<Prog
     ensures cells { IfOk result (λ program. program.cells ≤ budget) }
     ensures needed { IfOk result (λ program. program.cells ≤ needed_of aig.now) }
     ensures cycles { IfOk result (λ program. length program.instrs ≡ rm3_cost aig.now) }
+    ensures primed { IfOk result (λ program. IsPrimed program.instrs) }
     ensures refused { IfErr result (IsRefusalFor (needed_of aig.now) budget) }
+    ensures most { IfErr result (AsksAtMost (coarse_of aig.now)) }
 {
     aig.has_values();
     let plan = match planned(alloc, aig) {
@@ -85,6 +88,7 @@ fn planned(alloc: Global, aig: &Aig) -> Result<Plan, NoMemory>
     ensures over { IfOk result (λ plan. plan.over.items ≡ map (taken aig.now) (gates aig.now)) }
     ensures allotment { IfOk result (λ plan. IsAllotment (gate_graph aig.now) (gates aig.now) (map (taken aig.now) (gates aig.now)) aig.now.inputs plan.allotment) }
     ensures needed { IfOk result (λ plan. plan.needed ≡ needed_of aig.now) }
+    ensures most { IfOk result (λ plan. plan.needed ≤ coarse_of aig.now) }
     ensures width { IfOk result (λ plan. plan.allotment.width ≤ needed_of aig.now) }
 {
     let graph = gate_graph(alloc, aig)?;
@@ -92,13 +96,37 @@ fn planned(alloc: Global, aig: &Aig) -> Result<Plan, NoMemory>
     let order = order(alloc, &graph)?;
     let over = all_taken(alloc, aig, &graph, &order)?;
     let allotment = allot(alloc, &graph, &order, aig.inputs(), &over)?;
-    let needed = aig.inputs() + peak(alloc, &graph, &order)?;
+    let needed = needed_along(alloc, aig, &graph, &order)?;
     Ok(Plan {
         order,
         over,
         allotment,
         needed,
     })
+}
+
+/// The cells of the inputs, and as many as an order of the gates holds at once.
+fn needed_along(alloc: Global, aig: &Aig, graph: &Graph, order: &[u32]) -> Result<u32, NoMemory>
+    requires graph { graph.now ≡ gate_graph aig.now }
+    requires order { order.now ≡ gates aig.now }
+    requires placed { IsPlaced graph.now order.now }
+    requires reached { All (IsReached graph.now) order.now }
+    ensures needed { IfOk result (λ cells. cells ≡ needed_of aig.now) }
+    ensures most { IfOk result (λ cells. cells ≤ coarse_of aig.now) }
+{
+    graph.has_order();
+    let held = peak(alloc, graph, order)?;
+    Ok(aig.inputs() + held)
+}
+
+/// How many cells are surely enough for a graph: `base` refuses only budgets below it. Near linear in the graph.
+pub fn needed(alloc: Global, aig: &Aig) -> Result<u32, NoMemory>
+    ensures needed { IfOk result (λ cells. cells ≡ needed_of aig.now) }
+    ensures most { IfOk result (λ cells. cells ≤ coarse_of aig.now) }
+{
+    let graph = gate_graph(alloc, aig)?;
+    let order = order(alloc, &graph)?;
+    needed_along(alloc, aig, &graph, &order)
 }
 
 /// The draft of a planned schedule.

@@ -1,28 +1,21 @@
 -- What follows of how a call ended, whatever command its words say.
-use Rattle.std.proofs.Common.{◌≡◌, ◌≢◌, ◌⊎◌, ℕ, ◌≤◌, Bool, true, false, List, [], ◌++◌, Option, Some, None, Result, Ok, Err, inl, inr, refl, sym, ap, ◌∙◌, subst}
+use Rattle.std.proofs.Common.{◌≡◌, ◌≢◌, ◌⊎◌, ℕ, true, false, List, Some, Result, Ok, Err, inl, inr, refl, sym, ◌∙◌, subst}
 use Rattle.std.specs.Prelude.{OnOk}
 use Rattle.pim_io.specs.Outside.{Rose, Told}
-use Rattle.pim_io.specs.declared.limits.TheConstants.{MAX_INPUT, MAX_PROGRAM}
 use Rattle.pim_words.specs.Reading.{command_said, is_usage}
 use Rattle.pim_words.specs.declared.command.Command.{Command}
-use Rattle.pim_words.specs.declared.command.Command.TheVariants.{Compile, Run}
-use Rattle.pim_top.specs.Answers.{IsFine}
+use Rattle.pim_words.specs.declared.command.Command.TheVariants.{Run}
 use Rattle.pim_top.specs.Calls.{Ends, FileIsFine, HasWritten, IsCalm, IsDecided, IsDone, IsFileDecided, IsIdle, IsObeyed, IsRefused, Obeys}
-use Rattle.pim_top.specs.Decides.{Decides}
 use Rattle.pim_top.specs.Reads.{IsApart, OfBytes, Tells, executes_rows, reads, streams}
-use Rattle.pim_top.specs.Statuses.{answer_status, judgement_status, refusal_status}
+use Rattle.pim_top.specs.Statuses.{answer_status, refusal_status}
 use Rattle.pim_top.specs.Streams.{IsUntouched, Seen}
 use Rattle.pim_top.specs.commands.Run.{run_of}
-use Rattle.pim_top.specs.declared.judgement.Judgement.{Judgement}
-use Rattle.pim_top.specs.declared.refusal.Origin.{Origin}
 use Rattle.pim_top.specs.declared.refusal.Origin.TheVariants as origin
 use Rattle.pim_top.specs.declared.refusal.Refusal.{Refusal}
 use Rattle.pim_top.specs.declared.refusal.Refusal.TheVariants as refusal
 use Rattle.pim_top.specs.declared.status.Status.{Status}
 use Rattle.pim_top.specs.declared.status.Status.TheVariants as status
-use Rattle.pim_top.proofs.CompileFine.{compile-fine}
-use Rattle.pim_top.proofs.RowsEnds.{FileRefusal, rows-decided, rows-done, rows-file, rows-memory, rows-read, rows-usage, rows-write}
-use Rattle.pim_top.proofs.RunFine.{run-fine}
+use Rattle.pim_top.proofs.RowsEnds.{rows-decided, rows-done, rows-file, rows-memory, rows-read, rows-usage, rows-write}
 use Rattle.pim_top.proofs.StatusKinds.{refusal-done}
 use Rattle.pim_top.proofs.Told.{read-steady}
 use Rattle.pim_top.proofs.Wholes.{whole-decided, whole-done, whole-file, whole-nothing, whole-read, whole-usage, whole-write}
@@ -97,11 +90,6 @@ ends-decided c seen file bytes result t u calm h = elim (whole-decided c seen fi
   | inl decided ↦ inl (record { answer = decided.0; decided = decided.1; ends = decided.2 })
   | inr wanting ↦ inr wanting
 ]
-
--- bytes that are fine are done, or memory ran out
-fine-decided : (c : Command) (file bytes : List ℕ) (answer : Result (List ℕ) Refusal) → IsFine c file bytes → Decides c file bytes answer → (answer_status answer ≡ status.Done) ⊎ (answer_status answer ≡ status.NoMemory)
-fine-decided (Compile target level cells) file bytes answer fine h = compile-fine target level cells file bytes answer fine h
-fine-decided (Run fill) file bytes answer fine h = run-fine fill file bytes answer fine h
 
 -- ---- of a call
 -- the words say one command
@@ -202,11 +190,9 @@ call-decided words seen result h c file bytes said accepted t u calm = elim h [
   | inr obeyed ↦ ends-decided c seen file bytes result t u calm (subst (λ (d : Command). Ends d seen result) (some_of obeyed.command c (sym obeyed.said ∙ said)) obeyed.ends)
 ]
 
-pub call-complete : (words : List (List ℕ)) (seen : Seen) (result : Result_of) → Obeys words seen result → (c : Command) (file bytes : List ℕ) → command_said words ≡ Some c → is_usage words ≡ false → Tells (reads c origin.Program) seen.program file → Tells (reads c origin.Input) seen.input bytes → IsCalm seen → IsFine c file bytes → (answer_status result ≡ status.Done) ⊎ (answer_status result ≡ status.NoMemory)
-call-complete words seen result h c file bytes said accepted t u calm fine = elim (call-decided words seen result h c file bytes said accepted t u calm) [
-  | inl d ↦ elim (fine-decided c file bytes d.answer fine d.decided) [ inl done ↦ inl (d.ends ∙ done) | inr wanting ↦ inr (d.ends ∙ wanting) ]
-  | inr wanting ↦ inr wanting
-]
+-- words that are accepted say a command that was begun, or there was no memory for them
+pub unsaid-memory : (words : List (List ℕ)) (seen : Seen) (result : Result_of) → is_usage words ≡ false → IsRefused words seen result → answer_status result ≡ status.NoMemory
+unsaid-memory words seen result accepted refused = accepted-memory words seen result accepted refused
 
 obeyed-nothing : (words : List (List ℕ)) (seen : Seen) (result : Result_of) (c : Command) → streams c ≡ false → answer_status result ≢ status.Done → answer_status result ≢ status.WriteFault → Ends c seen result → IsUntouched seen.output
 obeyed-nothing words seen (Ok y) c not d w h = absurd (d refl)

@@ -1,5 +1,5 @@
 -- Worked examples of a call's definitions, by computation: the note of each refusal with a place, and a run with a wrong line.
-use Rattle.std.proofs.Common.{◌≡◌, ℕ, List, [], ◌∷◌, ◌++◌, Option, Some, None, codes, refl}
+use Rattle.std.proofs.Common.{◌≡◌, ℕ, List, [], ◌∷◌, ◌++◌, Some, codes, refl}
 use Rattle.std.specs.Fmt.{digits}
 use Rattle.pim_aiger.specs.declared.fault.AigerFault.TheVariants as aiger
 use Rattle.pim_batch.specs.Runners.{Runner}
@@ -18,7 +18,6 @@ use Rattle.pim_top.specs.declared.judgement.Judgement.{Judgement}
 use Rattle.pim_top.specs.declared.judgement.Judgement.TheVariants as judgement
 use Rattle.pim_top.specs.declared.netlist.NetlistFault.TheVariants.{Aiger, Blif}
 use Rattle.pim_top.specs.declared.refusal.Origin.TheVariants as origin
-use Rattle.pim_top.specs.declared.refusal.Refusal.{Refusal}
 use Rattle.pim_top.specs.declared.refusal.Refusal.TheVariants as refusal
 use Rattle.pim_top.specs.declared.status.Status.TheVariants as status
 

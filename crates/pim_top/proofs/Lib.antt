@@ -7,7 +7,5 @@ pub mod Told
 pub mod StatusKinds
 pub mod Wholes
 pub mod RowsEnds
-pub mod CompileFine
-pub mod RunFine
 pub mod Clauses
-pub mod CycleLabels
+pub mod SpacedLabels

@@ -1,5 +1,5 @@
 -- What follows of how a command ends that executes each line of its input as a row.
-use Rattle.std.proofs.Common.{◌≡◌, ◌⊎◌, ℕ, ◌+◌, ◌<◌, ◌≤◌, Bool, true, false, cond, eqb, leb, List, [], ◌∷◌, ◌++◌, length, Option, None, Some, Result, Ok, Err, inl, inr, refl, sym, ap, ◌∙◌, subst, arith}
+use Rattle.std.proofs.Common.{◌≡◌, ◌⊎◌, ℕ, ◌+◌, ◌<◌, ◌≤◌, Bool, true, false, cond, eqb, leb, List, [], ◌∷◌, ◌++◌, length, Option, None, Some, Result, Ok, Err, inl, inr, refl, sym, ap, ◌∙◌, subst}
 use Rattle.std.proofs.lemmas.Bool.{leb-true}
 use Rattle.pim_batch.specs.Runners.{Runner, results}
 use Rattle.pim_io.specs.Outside.{Rose, Told}
@@ -9,7 +9,7 @@ use Rattle.pim_top.specs.Calls.{IsCalm}
 use Rattle.pim_top.specs.Decides.{RowsDecide}
 use Rattle.pim_top.specs.Judged.{behind_lines, first_refusal, fitting_lines, input_refusal, is_vector, judged_lines}
 use Rattle.pim_top.specs.Reads.{OfBytes, Tells}
-use Rattle.pim_top.specs.Rows.{EndsEarly, EndsLate, IsLoaded, IsUnloaded, RowsEnd}
+use Rattle.pim_top.specs.Rows.{IsLoaded, IsUnloaded, RowsEnd}
 use Rattle.pim_top.specs.Statuses.{answer_status, judgement_status, refusal_status}
 use Rattle.pim_top.specs.Streams.{IsUntouched, Seen, Stream}
 use Rattle.pim_top.specs.Walks.{IsStopped, RanTo, RanWhole, WalkEnds, ran, rows_of}

@@ -1,5 +1,5 @@
 -- Which statuses refusals have.
-use Rattle.std.proofs.Common.{◌≡◌, refl, subst}
+use Rattle.std.proofs.Common.{◌≡◌, subst}
 use Rattle.pim_aiger.specs.declared.fault.AigerFault.{AigerFault}
 use Rattle.pim_aiger.specs.declared.fault.AigerFault.TheVariants as aiger
 use Rattle.pim_blif.specs.declared.fault.BlifFault.{BlifFault}

@@ -1,8 +1,8 @@
 -- What is known of streams that tell their bytes.
-use Rattle.std.proofs.Common.{◌≡◌, ℕ, ◌+◌, ◌<◌, ◌≤◌, List, [], ◌++◌, length, drop, Option, Some, None, refl, sym, ap, ◌∙◌, subst, arith}
-use Rattle.pim_io.specs.Outside.{GaveAll, GaveFirst, Rose, Told, TookAll}
+use Rattle.std.proofs.Common.{◌≡◌, ℕ, ◌+◌, ◌≤◌, List, [], length, drop, Option, Some, None, sym, ◌∙◌, subst, arith}
+use Rattle.pim_io.specs.Outside.{Rose, Told}
 use Rattle.pim_top.specs.Reads.{IsOver, IsReadBy, IsWithin, OfBytes, OfLimit, Tells}
-use Rattle.pim_top.specs.Streams.{HasFailed, IsOverrun, IsRead, Stream}
+use Rattle.pim_top.specs.Streams.{HasFailed, IsOverrun, Stream}
 
 pub told-map : (a b : Option (List ℕ)) (P Q : List ℕ → List ℕ → Type 0) → ((x y : List ℕ) → P x y → Q x y) → Told a b P → Told a b Q
 told-map None b P Q f h = tt

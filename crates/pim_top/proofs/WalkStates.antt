@@ -4,14 +4,14 @@ use Rattle.std.specs.Borrow.{Bor}
 use Rattle.std.specs.List.{list_all}
 use Rattle.std.specs.Prelude.{All}
 use Rattle.std.proofs.Math.Seq.{take-append-add}
-use Rattle.std.proofs.lemmas.Bool.{cases_lt, le-leb}
+use Rattle.std.proofs.lemmas.Bool.{le-leb}
 use Rattle.std.proofs.lemmas.Bool.Decides.{nat_tests}
 use Rattle.std.proofs.lemmas.List.{take-append-drop, take_all}
 use Rattle.std.proofs.lemmas.List.Elements.{All-head, All-tail}
 use Rattle.pim_io.specs.Bits.{bits_of}
 use Rattle.pim_io.specs.Outside.{Told}
 use Rattle.pim_vectors.specs.Lines.{line_len, lines}
-use Rattle.pim_vectors.specs.Next.{IsAfter, LinesView, handed, next_of}
+use Rattle.pim_vectors.specs.Next.{IsAfter, LinesView, next_of}
 use Rattle.pim_vectors.specs.Tiles.{IsVector}
 use Rattle.pim_vectors.specs.declared.fault.LinesFault.{LinesFault}
 use Rattle.pim_vectors.specs.declared.fault.LinesFault.TheVariants as faults
@@ -22,9 +22,9 @@ use Rattle.pim_io.specs.declared.limits.TheConstants.{MAX_INPUT}
 use Rattle.pim_top.specs.declared.refusal.Origin.TheVariants as origin
 use Rattle.pim_top.specs.declared.refusal.Refusal.{Refusal}
 use Rattle.pim_top.specs.declared.refusal.Refusal.TheVariants as refusal
-use Rattle.pim_top.specs.inner.Standing.{Halts, IsEnd, IsRefusedHere, IsWalk, Stops, TakesUp, lines_refusal}
+use Rattle.pim_top.specs.inner.Standing.{IsEnd, IsRefusedHere, IsWalk, Stops, TakesUp, lines_refusal}
 use Rattle.pim_top.proofs.JudgedLines.{lines-append, piece-append, settled-append}
-use Rattle.pim_top.proofs.NextLine.{FindsEnd, FindsLine, FindsMore, IsLine, finds-next, room}
+use Rattle.pim_top.proofs.NextLine.{FindsLine, IsLine, finds-next, room}
 
 -- ---- what is judged of all bytes, by what stands next
 -- the bytes from the next line on

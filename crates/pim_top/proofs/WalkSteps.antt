@@ -1,18 +1,17 @@
 -- One step of a walk: what the output took then, or why the walk ends.
-use Rattle.std.proofs.Common.{◌≡◌, ◌≢◌, ℕ, ◌+◌, ◌-◌, ◌*◌, ◌%◌, ◌<◌, ◌≤◌, Bool, true, false, List, [], ◌∷◌, ◌++◌, length, map, take, Option, Some, None, inl, inr, refl, sym, ap, ◌∙◌, subst, arith, append_assoc, append-nil, length-append, length-take}
+use Rattle.std.proofs.Common.{◌≡◌, ◌≢◌, ℕ, ◌+◌, ◌-◌, ◌*◌, ◌%◌, ◌<◌, ◌≤◌, Bool, true, false, List, [], ◌∷◌, ◌++◌, length, take, Option, Some, None, inl, inr, refl, sym, ap, ◌∙◌, subst, arith, append_assoc, append-nil, length-append}
 use Rattle.std.proofs.Math.Seq.{take-append-add}
 use Rattle.std.proofs.lemmas.Bool.{cases_lt}
 use Rattle.std.proofs.lemmas.Grind.{flat_map-append}
 use Rattle.std.proofs.lemmas.List.{length-map, map-append, take-append-le, take_all}
 use Rattle.std.proofs.lemmas.Nat.{mod-mul-add}
 use Rattle.pim_io.specs.Bits.{bits_of}
-use Rattle.pim_io.specs.Outside.{Rose, Told, TookAll, TookFirst}
+use Rattle.pim_io.specs.Outside.{Told, TookAll, TookFirst}
 use Rattle.pim_batch.specs.Runners.{Runner, results}
 use Rattle.pim_vectors.specs.Lines.{lines}
 use Rattle.pim_vectors.specs.Next.{LinesView}
 use Rattle.pim_top.specs.Judged.{first_refusal, fitting_lines}
-use Rattle.pim_top.specs.Walks.{RanInPart, RanShort, RanTo, RanWhole, full_rows, rows_of, tiles_of}
-use Rattle.pim_top.specs.declared.judgement.Judgement.{Judgement}
+use Rattle.pim_top.specs.Walks.{RanInPart, RanTo, RanWhole, full_rows, rows_of, tiles_of}
 use Rattle.pim_top.specs.declared.refusal.Origin.TheVariants as origin
 use Rattle.pim_top.specs.declared.refusal.Refusal.{Refusal}
 use Rattle.pim_top.specs.declared.refusal.Refusal.TheVariants as refusal

@@ -1,20 +1,20 @@
 -- What follows of how a command ends that writes its text whole.
-use Rattle.std.proofs.Common.{◌≡◌, ◌⊎◌, ℕ, ◌≤◌, List, [], ◌++◌, Result, Ok, Err, inl, inr, refl, sym, ap, ◌∙◌, subst}
+use Rattle.std.proofs.Common.{◌≡◌, ◌⊎◌, ℕ, List, ◌++◌, Option, None, Some, Result, Ok, Err, inl, inr, refl, ◌∙◌, subst, arith}
 use Rattle.pim_io.specs.Outside.{Rose, Told}
 use Rattle.pim_words.specs.declared.command.Command.{Command}
-use Rattle.pim_top.specs.Answers.{Answers, FilePasses, FileRefused, IsWanting}
+use Rattle.pim_top.specs.Answers.{FilePasses, FileRefused, IsFine}
 use Rattle.pim_top.specs.Calls.{IsCalm}
 use Rattle.pim_top.specs.Decides.{EarlyDecides, FileDecides, InputDecides}
-use Rattle.pim_top.specs.Reads.{IsReadBy, IsWithin, OfBytes, Tells, reads}
+use Rattle.pim_top.specs.Reads.{IsOver, IsReadBy, IsWithin, OfBytes, Tells, reads}
 use Rattle.pim_top.specs.Statuses.{answer_status, judgement_status, refusal_status}
-use Rattle.pim_top.specs.Streams.{IsUntouched, IsWritten, Seen, Stream}
+use Rattle.pim_top.specs.Streams.{IsUntouched, IsWritten, Seen}
 use Rattle.pim_top.specs.Wholes.{HasAnswered, WholeEnds}
-use Rattle.pim_top.specs.declared.judgement.Judgement.{Judgement}
 use Rattle.pim_top.specs.declared.refusal.Origin.TheVariants as origin
 use Rattle.pim_top.specs.declared.refusal.Refusal.{Refusal}
 use Rattle.pim_top.specs.declared.refusal.Refusal.TheVariants as refusal
 use Rattle.pim_top.specs.declared.status.Status.{Status}
 use Rattle.pim_top.specs.declared.status.Status.TheVariants as status
+use Rattle.pim_top.specs.inner.Faultless.{IsComplete, IsFaultless}
 use Rattle.pim_top.proofs.StatusKinds.{judgement-other}
 use Rattle.pim_top.proofs.Told.{failed-rose, of-bytes, over-told, read-within, same-bytes, told-map}
 
@@ -131,3 +131,27 @@ whole-decided c seen file input (Err (refusal.Judged j)) t u calm h = elim h.0 [
       let same = same-bytes (reads c origin.Input) seen.input f.input input f.input_read u in
       inl (Err (refusal.Judged j), late c seen f.file file input (Err (refusal.Judged j)) t f.program_read f.passes (subst (λ (x : List ℕ). InputDecides c f.file x (Err (refusal.Judged j))) same (read-within (reads c origin.Input) seen.input f.input f.input_read, f.refused)), refl)
 ]
+
+-- ---- what a command takes
+over-within : (limit : Option ℕ) (bytes : List ℕ) → IsOver limit bytes → IsWithin limit bytes → ⊥
+over-within None bytes over within = over
+over-within (Some limit) bytes over within = omega (arith, over, within)
+
+faultless-status : (c : Command) (file input : List ℕ) (answer : Result (List ℕ) Refusal) → IsFaultless c file input → EarlyOrLate c file input answer → (answer_status answer ≡ status.Done) ⊎ (answer_status answer ≡ status.NoMemory)
+faultless-status c file input (Ok text) f h = inl refl
+faultless-status c file input (Err refusal.Usage) f h = elim h [ inl e ↦ absurd e | inr l ↦ absurd l.1.1 ]
+faultless-status c file input (Err refusal.NoMemory) f h = inr refl
+faultless-status c file input (Err (refusal.ReadFault o)) f h = elim h [ inl e ↦ absurd e | inr l ↦ absurd l.1.1 ]
+faultless-status c file input (Err (refusal.TooLong origin.Program)) f h = elim h [ inl e ↦ absurd (over-within (reads c origin.Program) file e f.file_fits) | inr l ↦ absurd l.1.1 ]
+faultless-status c file input (Err (refusal.TooLong origin.Input)) f h = elim h [ inl e ↦ absurd e | inr l ↦ absurd (over-within (reads c origin.Input) input l.1.1 f.input_fits) ]
+faultless-status c file input (Err refusal.WriteFault) f h = elim h [ inl e ↦ absurd e | inr l ↦ absurd l.1.1 ]
+faultless-status c file input (Err (refusal.Judged j)) f h = elim h [ inl e ↦ inr (f.file_passes j e.1) | inr l ↦ inr (f.input_passes j l.1.1.1) ]
+
+-- it is done, where what it takes has no fault
+pub whole-complete : {Y : Type 0} (c : Command) (seen : Seen) (result : Result Y Refusal) → ((file input : List ℕ) → IsFine c file input → IsFaultless c file input) → WholeEnds c seen result → IsComplete c seen result
+whole-complete c seen result law h = record {
+  ends = λ file input t u calm fine. elim (whole-decided c seen file input result t u calm h) [
+    | inl d ↦ elim (faultless-status c file input d.0 (law file input fine) d.1) [ inl done ↦ inl (d.2 ∙ done) | inr wanting ↦ inr (d.2 ∙ wanting) ]
+    | inr wanting ↦ inr wanting
+  ];
+}

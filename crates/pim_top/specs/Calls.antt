@@ -1,13 +1,13 @@
 -- What a call of `pim` did, by its words, by what it saw of the outside, and by its status.
-use Rattle.std.specs.Prelude.{◌≡◌, ◌≢◌, ◌⊎◌, ℕ, Bool, true, false, List, ◌++◌, Option, Some, Result, Ok, Err}
+use Rattle.std.specs.Prelude.{◌≡◌, ◌⊎◌, ℕ, true, false, List, ◌++◌, Some, Result, Ok, Err}
 use Rattle.pim_io.specs.Outside.{Rose, Told, TookAll, TookFirst}
 use Rattle.pim_words.specs.Reading.{command_said, is_usage}
 use Rattle.pim_words.specs.declared.command.Command.{Command}
 use Rattle.pim_words.specs.declared.command.Command.TheVariants.{Run}
-use Rattle.pim_top.specs.Answers.{FilePasses, IsFine}
+use Rattle.pim_top.specs.Answers.{FilePasses}
 use Rattle.pim_top.specs.Decides.{Decides, FileDecides}
 use Rattle.pim_top.specs.Notes.{note}
-use Rattle.pim_top.specs.Reads.{IsApart, IsWithin, OfBytes, Tells, reads}
+use Rattle.pim_top.specs.Reads.{IsApart, IsWithin, OfBytes, reads}
 use Rattle.pim_top.specs.Rows.{RowsEnd}
 use Rattle.pim_top.specs.Statuses.{answer_status, refusal_status}
 use Rattle.pim_top.specs.Streams.{IsUntouched, Seen, Stream}
@@ -17,7 +17,6 @@ use Rattle.pim_top.specs.declared.refusal.Origin.TheVariants.{Input, Program}
 use Rattle.pim_top.specs.declared.refusal.Refusal.{Refusal}
 use Rattle.pim_top.specs.declared.refusal.Refusal.TheVariants as refusal
 use Rattle.pim_top.specs.declared.status.Status.{Status}
-use Rattle.pim_top.specs.declared.status.Status.TheVariants as status
 
 -- how a command ends
 abbrev pub Ends : {Y : Type 0} → Command → Seen → Result Y Refusal → Type 0

@@ -1,5 +1,5 @@
 -- What the bytes alone decide, where nothing of the outside fails and memory is there.
-use Rattle.std.specs.Prelude.{◌≡◌, ◌⊎◌, ◌≤◌, ◌<◌, ℕ, List, length, Result, Ok, Err}
+use Rattle.std.specs.Prelude.{◌≡◌, ◌⊎◌, ℕ, List, Result, Ok, Err}
 use Rattle.pim_batch.specs.Runners.{Runner}
 use Rattle.pim_words.specs.declared.command.Command.{Command}
 use Rattle.pim_words.specs.declared.command.Command.TheVariants.{Run}

@@ -1,5 +1,5 @@
 -- The netlist of bytes in any format.
-use Rattle.std.specs.Prelude.{◌≡◌, List, ℕ, Result, Ok, Err, if◌then◌else◌}
+use Rattle.std.specs.Prelude.{List, ℕ, Result, Ok, Err, if◌then◌else◌}
 use Rattle.pim_net.specs.Netlist.{DraftView}
 use Rattle.pim_aiger.specs.Files.{net_of as aiger_net_of}
 use Rattle.pim_aiger.specs.HeaderLine.{is_aiger}

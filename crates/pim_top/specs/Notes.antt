@@ -1,5 +1,5 @@
 -- The line that each answer writes to the notes.
-use Rattle.std.specs.Prelude.{ℕ, List, [], ◌∷◌, ◌++◌, Result, Ok, Err, codes, decimal, slice_get, unwrap_or}
+use Rattle.std.specs.Prelude.{ℕ, List, [], ◌∷◌, ◌++◌, Result, Ok, Err, codes, decimal}
 use Rattle.pim_aiger.specs.declared.fault.AigerFault.{AigerFault}
 use Rattle.pim_aiger.specs.declared.fault.AigerFault.TheVariants as aiger
 use Rattle.pim_blif.specs.declared.fault.BlifFault.{BlifFault}
@@ -35,14 +35,10 @@ large word = codes "too large: " ++ word
 abbrev pub wanting : List ℕ
 wanting = codes "no memory"
 
--- the label of a signal
-abbrev pub label_of : List (List ℕ) → ℕ → List ℕ
-label_of names s = unwrap_or (slice_get names s) []
-
--- the labels of the signals of a cycle, each after a space
-abbrev pub cycle_labels : List (List ℕ) → List ℕ → List ℕ
-cycle_labels names [] = []
-cycle_labels names (s ∷ ss) = (codes " " ++ label_of names s) ++ cycle_labels names ss
+-- labels, each after a space
+abbrev pub spaced : List (List ℕ) → List ℕ
+spaced [] = []
+spaced (label ∷ labels) = (codes " " ++ label) ++ spaced labels
 
 -- the limit of a netlist that is passed
 abbrev pub kind_word : Kind → List ℕ
@@ -50,12 +46,12 @@ kind_word kind.Signals = codes "signals"
 kind_word kind.Outputs = codes "outputs"
 kind_word kind.Name = codes "name"
 
--- why a netlist is not well-formed
+-- why a netlist is not well-formed, with the labels of the signals that the fault names
 abbrev pub net_text : NetFault → List (List ℕ) → List ℕ
-net_text (net.Twice s) names = bad (codes "driven twice " ++ label_of names s)
-net_text (net.Undriven s) names = bad (codes "undriven " ++ label_of names s)
-net_text (net.Cycle signals) names = bad (codes "cycle" ++ cycle_labels names signals)
-net_text net.NoMemory names = wanting
+net_text (net.Twice s) labels = bad (codes "driven twice" ++ spaced labels)
+net_text (net.Undriven s) labels = bad (codes "undriven" ++ spaced labels)
+net_text (net.Cycle signals) labels = bad (codes "cycle" ++ spaced labels)
+net_text net.NoMemory labels = wanting
 
 -- why bytes are no AIGER file
 abbrev pub aiger_text : AigerFault → List ℕ
@@ -66,7 +62,7 @@ aiger_text (aiger.Literal place) = bad (codes "aiger literal at byte " ++ decima
 aiger_text (aiger.Truncated place) = bad (codes "aiger truncated at byte " ++ decimal place)
 aiger_text (aiger.Delta place) = bad (codes "aiger delta at byte " ++ decimal place)
 aiger_text (aiger.Symbol place) = bad (codes "aiger symbol at byte " ++ decimal place)
-aiger_text (aiger.Net fault names) = net_text fault names
+aiger_text (aiger.Net fault labels) = net_text fault labels
 aiger_text (aiger.TooLarge kind) = large (kind_word kind)
 aiger_text aiger.NoMemory = wanting
 
@@ -81,7 +77,7 @@ blif_text (blif.Unsupported line name) = blif_line line (codes ": unsupported ")
 blif_text (blif.RowWidth line) = blif_line line (codes ": row width") []
 blif_text (blif.MixedPhase line) = blif_line line (codes ": mixed phase") []
 blif_text (blif.TwiceInput line) = blif_line line (codes ": input twice") []
-blif_text (blif.Net fault names) = net_text fault names
+blif_text (blif.Net fault labels) = net_text fault labels
 blif_text (blif.TooLarge kind) = large (kind_word kind)
 blif_text blif.NoMemory = wanting
 

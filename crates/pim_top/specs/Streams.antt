@@ -1,6 +1,6 @@
 -- What a call saw of a source or a sink: its bytes, where it tells them, and its count of faults, before and after the call.
-use Rattle.std.specs.Prelude.{◌≡◌, ◌≤◌, ℕ, ◌+◌, List, [], Option, None, Some, length}
-use Rattle.pim_io.specs.Outside.{GaveAll, GaveAtMost, GaveFirst, Rose, Told, TookAll, TookFirst}
+use Rattle.std.specs.Prelude.{◌≡◌, ◌≤◌, ℕ, ◌+◌, List, Option, length}
+use Rattle.pim_io.specs.Outside.{GaveAll, GaveAtMost, GaveFirst, Rose, TookAll, TookFirst}
 
 -- the bytes that are left of a source, or that a sink took
 pub record Stream : Type 0 where

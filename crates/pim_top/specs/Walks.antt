@@ -5,7 +5,7 @@ use Rattle.pim_io.specs.Outside.{Rose, Told, TookAll, TookFirst}
 use Rattle.pim_batch.specs.Runners.{Runner, results}
 use Rattle.pim_vectors.specs.Lines.{line_len, lines}
 use Rattle.pim_top.specs.Judged.{first_refusal, fitting_lines, input_refusal, last_piece}
-use Rattle.pim_top.specs.Streams.{IsUntouched, Stream}
+use Rattle.pim_top.specs.Streams.{Stream}
 use Rattle.pim_top.specs.declared.judgement.Judgement.TheVariants.{TooManyLines, Vector}
 use Rattle.pim_io.specs.declared.limits.TheConstants.{MAX_INPUT}
 use Rattle.pim_top.specs.declared.refusal.Origin.TheVariants.{Input}

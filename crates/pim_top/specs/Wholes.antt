@@ -1,5 +1,5 @@
 -- How a command ends that writes its text whole.
-use Rattle.std.specs.Prelude.{◌≡◌, ◌⊎◌, ℕ, List, Result, Ok, Err}
+use Rattle.std.specs.Prelude.{◌⊎◌, ℕ, List, Result, Ok, Err}
 use Rattle.pim_words.specs.declared.command.Command.{Command}
 use Rattle.pim_top.specs.Answers.{Answers, FilePasses, FileRefused, IsWanting}
 use Rattle.pim_top.specs.Reads.{IsReadBy, OfLimit, reads}

@@ -1,3 +1,4 @@
+pub mod Faultless
 pub mod Standing
 pub mod Unread
 pub mod Writing

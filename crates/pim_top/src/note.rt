@@ -1,8 +1,8 @@
 //! The one line that a refusal writes to the notes.
-ghost use Rattle.std.specs.Prelude.{◌≡◌, ◌++◌, OnOk, codes, decimal};
+ghost use Rattle.std.specs.Prelude.{◌≡◌, ◌++◌, OnOk, decimal};
 ghost use Rattle.pim_io.specs.Outside.{Wrote};
 ghost use Rattle.pim_top.specs.Calls.{IsNoted};
-ghost use Rattle.pim_top.specs.Notes.{aiger_text, bad, blif_line, blif_text, compiler_text, cycle_labels, file_text, instruction_text, invalid_text, judgement_text, kind_word, label_of, large, net_text, note, origin_word, refusal_text};
+ghost use Rattle.pim_top.specs.Notes.{aiger_text, bad, blif_line, blif_text, compiler_text, file_text, instruction_text, invalid_text, judgement_text, kind_word, large, net_text, note, origin_word, refusal_text, spaced};
 ghost use Rattle.pim_top.specs.Streams.{stream};
 ghost use Rattle.pim_top.specs.inner.Writing.{WroteLine};
 
@@ -82,7 +82,7 @@ fn write_aiger<E: Sink>(notes: &mut E, fault: &AigerFault) -> Result<(), SinkFau
         AigerFault::Truncated(at) => write_bad_number(notes, b"aiger truncated at byte ", *at),
         AigerFault::Delta(at) => write_bad_number(notes, b"aiger delta at byte ", *at),
         AigerFault::Symbol(at) => write_bad_number(notes, b"aiger symbol at byte ", *at),
-        AigerFault::Net(fault, names) => write_net(notes, fault, names),
+        AigerFault::Net(fault, labels) => write_net(notes, fault, labels),
         AigerFault::TooLarge(kind) => write_large(notes, kind_word(*kind)),
         AigerFault::NoMemory => write_text(notes, b"no memory"),
     }
@@ -103,7 +103,7 @@ fn write_blif<E: Sink>(notes: &mut E, fault: &BlifFault) -> Result<(), SinkFault
         BlifFault::RowWidth(line) => write_blif_line(notes, *line, b": row width", b""),
         BlifFault::MixedPhase(line) => write_blif_line(notes, *line, b": mixed phase", b""),
         BlifFault::TwiceInput(line) => write_blif_line(notes, *line, b": input twice", b""),
-        BlifFault::Net(fault, names) => write_net(notes, fault, names),
+        BlifFault::Net(fault, labels) => write_net(notes, fault, labels),
         BlifFault::TooLarge(kind) => write_large(notes, kind_word(*kind)),
         BlifFault::NoMemory => write_text(notes, b"no memory"),
     }
@@ -131,14 +131,14 @@ fn write_blif_line<E: Sink>(
     write_pieces(notes, &pieces)
 }
 
-/// Writes the fault of a netlist with the labels of its signals.
-fn write_net<E: Sink>(notes: &mut E, fault: &NetFault, names: &Names) -> Result<(), SinkFault>
-    ensures { WroteLine E.taken E.faults notes.old notes.new (net_text fault.now names.now) result }
+/// Writes the fault of a netlist with the labels of the signals that it names.
+fn write_net<E: Sink>(notes: &mut E, fault: &NetFault, labels: &Names) -> Result<(), SinkFault>
+    ensures { WroteLine E.taken E.faults notes.old notes.new (net_text fault.now labels.now) result }
 {
     match fault {
-        NetFault::Twice(signal) => write_bad_two(notes, b"driven twice ", label_of(names, *signal)),
-        NetFault::Undriven(signal) => write_bad_two(notes, b"undriven ", label_of(names, *signal)),
-        NetFault::Cycle(signals) => write_cycle(notes, signals.list(), names),
+        NetFault::Twice(_) => write_labelled(notes, b"driven twice", labels),
+        NetFault::Undriven(_) => write_labelled(notes, b"undriven", labels),
+        NetFault::Cycle(_) => write_labelled(notes, b"cycle", labels),
         NetFault::NoMemory => write_text(notes, b"no memory"),
     }
 }
@@ -185,23 +185,23 @@ fn write_instruction<E: Sink>(notes: &mut E, number: u32, text: &[u8]) -> Result
     write_pieces(notes, &pieces)
 }
 
-/// Writes that these signals are a cycle, with their labels.
-fn write_cycle<E: Sink>(notes: &mut E, signals: &[u32], names: &Names) -> Result<(), SinkFault>
-    ensures { WroteLine E.taken E.faults notes.old notes.new (bad (codes "cycle" ++ cycle_labels names.now signals.now)) result }
+/// Writes that the input is bad, what is wrong, and labels.
+fn write_labelled<E: Sink>(notes: &mut E, text: &[u8], labels: &Names) -> Result<(), SinkFault>
+    ensures { WroteLine E.taken E.faults notes.old notes.new (bad (text.now ++ spaced labels.now)) result }
 {
     tell_writes();
-    write_pieces(notes, &[b"pim: ".as_slice(), b"bad input: ", b"cycle"])?;
-    write_labels(notes, signals, names)?;
+    write_pieces(notes, &[b"pim: ".as_slice(), b"bad input: ", text])?;
+    write_labels(notes, labels)?;
     write_all(notes, b"\n")
 }
 
-/// Writes the labels of signals, each after a space.
-fn write_labels<E: Sink>(notes: &mut E, signals: &[u32], names: &Names) -> Result<(), SinkFault>
-    ensures { Wrote result (E.taken notes.old) (E.taken notes.new) (E.faults notes.old) (E.faults notes.new) (cycle_labels names.now signals.now) }
+/// Writes labels, each after a space.
+fn write_labels<E: Sink>(notes: &mut E, labels: &Names) -> Result<(), SinkFault>
+    ensures { Wrote result (E.taken notes.old) (E.taken notes.new) (E.faults notes.old) (E.faults notes.new) (spaced labels.now) }
 {
     tell_writes();
-    for signal in signals {
-        write_pieces(notes, &[b" ".as_slice(), label_of(names, *signal)])?;
+    for label in labels.list() {
+        write_pieces(notes, &[b" ".as_slice(), label.bytes()])?;
     }
     Ok(())
 }
@@ -258,16 +258,6 @@ fn write_two<E: Sink>(notes: &mut E, first: &[u8], second: &[u8]) -> Result<(), 
     ensures { WroteLine E.taken E.faults notes.old notes.new (first.now ++ second.now) result }
 {
     write_pieces(notes, &[b"pim: ".as_slice(), first, second, b"\n"])
-}
-
-/// The label of a signal, and nothing where there is none of that number.
-fn label_of(names: &Names, signal: u32) -> &[u8]
-    ensures { result.now ≡ label_of names.now signal }
-{
-    match names.find(signal) {
-        Some(label) => label,
-        None => b"",
-    }
 }
 
 /// The name of a source.

@@ -11,6 +11,7 @@ ghost use Rattle.pim_top.specs.Notes.{refusal_note};
 ghost use Rattle.pim_top.specs.Reads.{IsApart, Tells, executes_rows, reads, streams};
 ghost use Rattle.pim_top.specs.Statuses.{answer_status};
 ghost use Rattle.pim_top.specs.Streams.{IsUntouched, seen, stream};
+ghost use Rattle.pim_top.specs.inner.Faultless.{IsComplete};
 
 use crate::Status;
 use crate::commands::compile::Compile;
@@ -114,6 +115,10 @@ fn obey<P: Source, S: Source, K: Sink>(
     ensures obeys { Obeys (map string_bytes words.now) (seen (stream P.left P.faults program.old program.new)
         (stream S.left S.faults input.old input.new) (stream K.taken K.faults output.old output.new)) result }
     ensures said { (command : Command) → IsPlain command (map string_bytes words.now) → IsTaken command (map string_bytes words.now) }
+    ensures complete { (command : Command) → command_said (map string_bytes words.now) ≡ Some command
+        → is_usage (map string_bytes words.now) ≡ false
+        → IsComplete command (seen (stream P.left P.faults program.old program.new)
+        (stream S.left S.faults input.old input.new) (stream K.taken K.faults output.old output.new)) result }
 {
     match pim_words::read(alloc, words) {
         Ok(command) => execute(alloc, command, program, input, output),
@@ -135,6 +140,8 @@ fn execute<P: Source, S: Source, K: Sink>(
         (stream S.left S.faults input.old input.new) (stream K.taken K.faults output.old output.new)) result }
     ensures apart { IsApart command (seen (stream P.left P.faults program.old program.new)
         (stream S.left S.faults input.old input.new) (stream K.taken K.faults output.old output.new)) }
+    ensures complete { IsComplete command (seen (stream P.left P.faults program.old program.new)
+        (stream S.left S.faults input.old input.new) (stream K.taken K.faults output.old output.new)) result }
 {
     match command {
         Command::Compile {

@@ -2,10 +2,11 @@
 //! writes the text.
 ghost use Rattle.std.specs.Prelude.{◌≡◌, ◌⊎◌, ℕ, List, IfErr, IfOk};
 ghost use Rattle.pim_words.specs.declared.command.Command.{Command};
-ghost use Rattle.pim_top.specs.Answers.{Answers, FilePasses, FileRefused, IsWanting};
+ghost use Rattle.pim_top.specs.Answers.{Answers, FilePasses, FileRefused, IsFine, IsWanting};
 ghost use Rattle.pim_top.specs.Reads.{IsApart, IsWithin, reads};
 ghost use Rattle.pim_top.specs.Streams.{seen, stream};
 ghost use Rattle.pim_top.specs.Wholes.{WholeEnds};
+ghost use Rattle.pim_top.specs.inner.Faultless.{IsComplete, IsFaultless};
 
 use crate::judgement::Judgement;
 use crate::reading::bytes_of;
@@ -42,6 +43,10 @@ pub(crate) trait WholeText {
             → Answers (command self.now) file input.now (Ok text.items)) }
         ensures refused { IfErr result (λ j. (file : List ℕ) → opens self.now file opened.now
             → IsWanting j ⊎ Answers (command self.now) file input.now (Err j)) };
+
+    /// A law, which computes nothing: what the command takes is not refused.
+    fn tell_fine(&self)
+        ensures { (file input : List ℕ) → IsFine (command self.now) file input → IsFaultless (command self.now) file input };
 }
 
 /// Reads what the command reads, to the end, and writes its text.
@@ -56,7 +61,10 @@ pub(crate) fn write_text<C: WholeText, P: Source, S: Source, K: Sink>(
         (stream S.left S.faults input.old input.new) (stream K.taken K.faults output.old output.new)) result }
     ensures apart { IsApart (C.command command.now) (seen (stream P.left P.faults program.old program.new)
         (stream S.left S.faults input.old input.new) (stream K.taken K.faults output.old output.new)) }
+    ensures complete { IsComplete (C.command command.now) (seen (stream P.left P.faults program.old program.new)
+        (stream S.left S.faults input.old input.new) (stream K.taken K.faults output.old output.new)) result }
 {
+    command.tell_fine();
     let file = bytes_of(
         alloc,
         program,

@@ -26,14 +26,14 @@ use Rattle.clap.specs.declared.parser.matches.ArgMatches.{ArgMatches}
 use Rattle.clap.proofs.CallerLemmas.{added_plain}
 use Rattle.clap.proofs.CallerReads.{required_reads}
 use Rattle.pim_words.specs.Lines.{compile_by, compile_line, one_of_names, option_of, required, with_default_text}
-use Rattle.pim_words.specs.Matches.{HasCells}
-use Rattle.pim_words.specs.Options.{HasRule}
+use Rattle.pim_words.specs.inner.Matches.{HasCells}
+use Rattle.pim_words.specs.inner.Options.{HasRule}
 use Rattle.pim_words.specs.Reading.{ReadsAlike}
 use Rattle.pim_words.proofs.Alike.{IsBareOf, reads_alike}
 
 -- ---- the definition
 
-pub compile_alike : (targets levels : Bor (List (Bor Text))) → texts targets.now ≡ codes "magic" ∷ [] → texts levels.now ≡ codes "0" ∷ []
+pub compile_alike : (targets levels : Bor (List (Bor Text))) → texts targets.now ≡ codes "magic" ∷ codes "plim" ∷ [] → texts levels.now ≡ codes "0" ∷ []
     → ReadsAlike (compile_by (vp.Names targets) (vp.Names levels)) compile_line
 compile_alike targets levels target level =
     let is_bare : IsBareOf (compile_by (vp.Names targets) (vp.Names levels)) (compile_by (one_of_names (texts targets.now)) (one_of_names (texts levels.now))) =

@@ -3,13 +3,14 @@ use Rattle.std.proofs.Common.{◌≡◌, List, [], ◌∷◌, ◌++◌, false, r
 use Rattle.std.specs.Prelude.{Some}
 use Rattle.clap.specs.Words.{Text}
 use Rattle.clap.proofs.OnLiterals.{clap_on_literals}
-use Rattle.pim_words.specs.Plain.{compile_words, fill_words, run_words}
+use Rattle.pim_words.specs.Plain.{compile_words, convert_words, file_words, fill_words}
 use Rattle.pim_words.specs.Program.{others, program_word_of}
 use Rattle.pim_words.specs.Reading.{command_said, is_usage}
-use Rattle.pim_words.specs.declared.command.Command.TheVariants.{Compile, Run}
+use Rattle.pim_words.specs.declared.command.Command.TheVariants as commands
 use Rattle.pim_words.specs.declared.command.FillWord.TheVariants.{Ones, Zeros}
+use Rattle.pim_words.specs.declared.command.FormWord.TheVariants as forms
 use Rattle.pim_words.specs.declared.command.LevelWord.TheVariants.{Zero}
-use Rattle.pim_words.specs.declared.command.TargetWord.TheVariants.{Magic}
+use Rattle.pim_words.specs.declared.command.TargetWord.TheVariants.{Magic, Plim}
 
 no_word : is_usage [] ≡ true
 no_word = refl
@@ -25,7 +26,7 @@ no_cells : is_usage (codes "compile" ∷ codes "--target" ∷ codes "magic" ∷ 
 unfolding clap_on_literals
 no_cells = refl
 
-other_target : is_usage (codes "compile" ∷ codes "--target" ∷ codes "plim" ∷ codes "--cells" ∷ codes "5" ∷ []) ≡ true
+other_target : is_usage (codes "compile" ∷ codes "--target" ∷ codes "imply" ∷ codes "--cells" ∷ codes "5" ∷ []) ≡ true
 unfolding clap_on_literals
 other_target = refl
 
@@ -37,7 +38,7 @@ twice : is_usage (codes "compile" ∷ codes "--cells" ∷ codes "5" ∷ codes "-
 unfolding clap_on_literals
 twice = refl
 
-most : command_said (compile_words Magic (codes "1048576")) ≡ Some (Compile Magic Zero 1048576)
+most : command_said (compile_words Magic (codes "1048576")) ≡ Some (commands.Compile Magic Zero 1048576)
 unfolding clap_on_literals
 most = refl
 
@@ -48,11 +49,11 @@ other_order_taken : is_usage other_order ≡ false
 unfolding clap_on_literals other_order
 other_order_taken = refl
 
-other_order_said : command_said other_order ≡ Some (Compile Magic Zero 5)
+other_order_said : command_said other_order ≡ Some (commands.Compile Magic Zero 5)
 unfolding clap_on_literals other_order
 other_order_said = refl
 
-leading_zero : command_said (compile_words Magic (codes "+05")) ≡ Some (Compile Magic Zero 5)
+leading_zero : command_said (compile_words Magic (codes "+05")) ≡ Some (commands.Compile Magic Zero 5)
 unfolding clap_on_literals
 leading_zero = refl
 
@@ -62,21 +63,21 @@ file_like_an_option = refl
 no_file : is_usage (codes "run" ∷ []) ≡ true
 no_file = refl
 
-not_built : is_usage (codes "list" ∷ codes "a" ∷ []) ≡ true
+not_built : is_usage (codes "prove" ∷ codes "a" ∷ []) ≡ true
 not_built = refl
 
 without_file : others (codes "run" ∷ codes "--fill" ∷ codes "--fill" ∷ codes "ones" ∷ []) ≡ codes "run" ∷ codes "--fill" ∷ codes "ones" ∷ []
 without_file = refl
 
-run_said_alone : command_said (run_words (codes "a")) ≡ Some (Run Zeros)
+run_said_alone : command_said (file_words (codes "run") (codes "a")) ≡ Some (commands.Run Zeros)
 unfolding clap_on_literals
 run_said_alone = refl
 
-run_said_ones : command_said (run_words (codes "a") ++ fill_words Ones) ≡ Some (Run Ones)
+run_said_ones : command_said (file_words (codes "run") (codes "a") ++ fill_words Ones) ≡ Some (commands.Run Ones)
 unfolding clap_on_literals
 run_said_ones = refl
 
-run_said_joined : command_said (codes "run" ∷ codes "a" ∷ codes "--fill=ones" ∷ []) ≡ Some (Run Ones)
+run_said_joined : command_said (codes "run" ∷ codes "a" ∷ codes "--fill=ones" ∷ []) ≡ Some (commands.Run Ones)
 unfolding clap_on_literals
 run_said_joined = refl
 
@@ -102,10 +103,54 @@ fill_without_value : is_usage (codes "run" ∷ codes "a" ∷ codes "--fill" ∷ 
 unfolding clap_on_literals
 fill_without_value = refl
 
-fill_twice : is_usage (run_words (codes "a") ++ fill_words Ones ++ fill_words Ones) ≡ true
+fill_twice : is_usage (file_words (codes "run") (codes "a") ++ fill_words Ones ++ fill_words Ones) ≡ true
 unfolding clap_on_literals
 fill_twice = refl
 
 two_files : is_usage (codes "run" ∷ codes "a" ∷ codes "b" ∷ []) ≡ true
 unfolding clap_on_literals
 two_files = refl
+
+for_plim : command_said (compile_words Plim (codes "8")) ≡ Some (commands.Compile Plim Zero 8)
+unfolding clap_on_literals
+for_plim = refl
+
+list_said : command_said (file_words (codes "list") (codes "a")) ≡ Some commands.List
+unfolding clap_on_literals
+list_said = refl
+
+explain_with_more : is_usage (codes "explain" ∷ codes "a" ∷ codes "--tree" ∷ []) ≡ true
+unfolding clap_on_literals
+explain_with_more = refl
+
+list_without_file : is_usage (codes "list" ∷ []) ≡ true
+list_without_file = refl
+
+asm_said : command_said (codes "asm" ∷ []) ≡ Some commands.Asm
+unfolding clap_on_literals
+asm_said = refl
+
+-- assembly comes from the input, so a file is a word too many
+asm_with_file : is_usage (file_words (codes "asm") (codes "a")) ≡ true
+unfolding clap_on_literals
+asm_with_file = refl
+
+debug_said_ones : command_said (file_words (codes "debug") (codes "a") ++ fill_words Ones) ≡ Some (commands.Debug Ones)
+unfolding clap_on_literals
+debug_said_ones = refl
+
+convert_said_text : command_said (convert_words forms.Text) ≡ Some (commands.Convert forms.Text)
+unfolding clap_on_literals
+convert_said_text = refl
+
+convert_said_joined : command_said (codes "convert" ∷ codes "--form=2" ∷ []) ≡ Some (commands.Convert forms.Binary)
+unfolding clap_on_literals
+convert_said_joined = refl
+
+no_form : is_usage (codes "convert" ∷ []) ≡ true
+unfolding clap_on_literals
+no_form = refl
+
+other_form : is_usage (codes "convert" ∷ codes "--form" ∷ codes "02" ∷ []) ≡ true
+unfolding clap_on_literals
+other_form = refl

@@ -5,5 +5,6 @@ pub mod Alike
 pub mod OptionRules
 pub mod Answered
 pub mod CompileLine
-pub mod FillLine
+pub mod ChoiceLines
+pub mod Named
 pub mod PlainWords

@@ -7,7 +7,7 @@ use Rattle.clap.specs.Walk.{Rule, Text, rule_of}
 use Rattle.clap.specs.declared.builder.arg.Arg.{Arg}
 use Rattle.clap.specs.declared.builder.texts.Texts.TheVariants.{One}
 use Rattle.pim_words.specs.Lines.{required, with_default_text}
-use Rattle.pim_words.specs.Options.{HasRule}
+use Rattle.pim_words.specs.inner.Options.{HasRule}
 
 pub with_required : (r : Rule) (o a : Arg) → HasRule r o → a ≡ record o { required = true } → HasRule (required r) a
 with_required r o a has is = record {

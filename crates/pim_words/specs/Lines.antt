@@ -34,10 +34,11 @@ compile_by targets levels =
     (required (option_of (codes "cells") (vp.Signed (pos 0) (pos 1048576)))))
     (with_default_text (codes "0") (option_of (codes "level") levels))
 
--- `compile --target magic --cells N [--level 0]`, with N from 0 to 1,048,576
+-- `compile --target magic|plim --cells N [--level 0]`, with N from 0 to 1,048,576
 abbrev pub compile_line : App
 compile_line =
-    compile_by (one_of_names (codes "magic" ∷ [])) (one_of_names (codes "0" ∷ []))
+    compile_by (one_of_names (codes "magic" ∷ codes "plim" ∷ []))
+    (one_of_names (codes "0" ∷ []))
 
 -- a command whose one option is `--fill`, by what that takes
 abbrev pub fill_by : Text → ValueParser → App
@@ -47,3 +48,11 @@ fill_by name fills =
 -- a command with `[--fill zeros|ones]` and nothing else, where no `--fill` is `--fill zeros`
 abbrev pub fill_line : Text → App
 fill_line name = fill_by name (one_of_names (codes "zeros" ∷ codes "ones" ∷ []))
+
+-- `convert`, by what its `--form` takes
+abbrev pub convert_by : ValueParser → App
+convert_by forms = with_rule (new_app (codes "convert")) (required (option_of (codes "form") forms))
+
+-- `convert --form 1|2`
+abbrev pub convert_line : App
+convert_line = convert_by (one_of_names (codes "1" ∷ codes "2" ∷ []))

@@ -4,16 +4,19 @@ use Rattle.std.specs.Fmt.{decimal}
 use Rattle.clap.specs.Words.{Text}
 use Rattle.pim_words.specs.Reading.{command_said, is_usage}
 use Rattle.pim_words.specs.declared.command.Command.{Command}
-use Rattle.pim_words.specs.declared.command.Command.TheVariants.{Compile, Run}
+use Rattle.pim_words.specs.declared.command.Command.TheVariants as commands
 use Rattle.pim_words.specs.declared.command.FillWord.{FillWord}
 use Rattle.pim_words.specs.declared.command.FillWord.TheVariants.{Ones, Zeros}
+use Rattle.pim_words.specs.declared.command.FormWord.{FormWord}
+use Rattle.pim_words.specs.declared.command.FormWord.TheVariants as forms
 use Rattle.pim_words.specs.declared.command.LevelWord.{LevelWord}
 use Rattle.pim_words.specs.declared.command.LevelWord.TheVariants.{Zero}
 use Rattle.pim_words.specs.declared.command.TargetWord.{TargetWord}
-use Rattle.pim_words.specs.declared.command.TargetWord.TheVariants.{Magic}
+use Rattle.pim_words.specs.declared.command.TargetWord.TheVariants.{Magic, Plim}
 
 abbrev pub target_text : TargetWord → Text
 target_text Magic = codes "magic"
+target_text Plim = codes "plim"
 
 abbrev pub level_text : LevelWord → Text
 level_text Zero = codes "0"
@@ -29,21 +32,43 @@ abbrev pub fill_text : FillWord → Text
 fill_text Zeros = codes "zeros"
 fill_text Ones = codes "ones"
 
-abbrev pub run_words : Text → List Text
-run_words file = codes "run" ∷ file ∷ []
-
 abbrev pub fill_words : FillWord → List Text
 fill_words fill = codes "--fill" ∷ fill_text fill ∷ []
+
+abbrev pub form_text : FormWord → Text
+form_text forms.Text = codes "1"
+form_text forms.Binary = codes "2"
+
+abbrev pub convert_words : FormWord → List Text
+convert_words form = codes "convert" ∷ codes "--form" ∷ form_text form ∷ []
+
+-- a command's name and its file
+abbrev pub file_words : Text → Text → List Text
+file_words name file = name ∷ file ∷ []
+
+-- the command of this name with its file, whatever the name of that is, and nothing else
+abbrev pub IsPlainFile : Text → List Text → Type 0
+IsPlainFile name words = (file : Text) × (words ≡ file_words name file)
+
+-- the command of this name with its file and `--fill`, which may be left out where it says zeros
+abbrev pub IsPlainFill : Text → FillWord → List Text → Type 0
+IsPlainFill name fill words = (file : Text)
+    × (((fill ≡ Zeros) × (words ≡ file_words name file))
+    ⊎ (words ≡ file_words name file ++ fill_words fill))
 
 -- the words say the command: its file where it has one, whatever its name is, then its options in
 -- their order, numbers in digits with no leading zero; an option may be left out where its value is
 -- the default, which is 0 for the level and zeros for the fill
 abbrev pub IsPlain : Command → List Text → Type 0
-IsPlain (Compile target level cells) words = (cells ≤ 1048576)
+IsPlain (commands.Compile target level cells) words = (cells ≤ 1048576)
     × (((level ≡ Zero) × (words ≡ compile_words target (decimal cells)))
     ⊎ (words ≡ compile_words target (decimal cells) ++ level_words level))
-IsPlain (Run fill) words = (file : Text)
-    × (((fill ≡ Zeros) × (words ≡ run_words file)) ⊎ (words ≡ run_words file ++ fill_words fill))
+IsPlain (commands.Run fill) words = IsPlainFill (codes "run") fill words
+IsPlain commands.List words = IsPlainFile (codes "list") words
+IsPlain commands.Explain words = IsPlainFile (codes "explain") words
+IsPlain commands.Asm words = words ≡ codes "asm" ∷ []
+IsPlain (commands.Debug fill) words = IsPlainFill (codes "debug") fill words
+IsPlain (commands.Convert form) words = words ≡ convert_words form
 
 -- the words are no usage, and say the command
 abbrev pub IsTaken : Command → List Text → Type 0

@@ -7,14 +7,17 @@ use Rattle.std.specs.Str.{bytes_eq}
 use Rattle.std.specs.Str.Parse.{digits_value, without_leading_plus}
 use Rattle.clap.specs.Walk.{is_empty}
 use Rattle.clap.specs.Words.{App, Row, Text, fault_of, first_of, is_simple_and_free, matches_of}
-use Rattle.clap.specs.Words.{one_of}
-use Rattle.pim_words.specs.Lines.{compile_line, fill_line}
+use Rattle.clap.specs.Words.{new_app, one_of}
+use Rattle.pim_words.specs.Lines.{compile_line, convert_line, fill_line}
 use Rattle.pim_words.specs.Program.{lacks_program, others}
 use Rattle.pim_words.specs.declared.command.Command.{Command}
-use Rattle.pim_words.specs.declared.command.Command.TheVariants.{Compile, Run}
+use Rattle.pim_words.specs.declared.command.Command.TheVariants as commands
 use Rattle.pim_words.specs.declared.command.FillWord.{FillWord}
 use Rattle.pim_words.specs.declared.command.FillWord.TheVariants.{Ones, Zeros}
-use Rattle.pim_words.specs.declared.command.TargetWord.TheVariants.{Magic}
+use Rattle.pim_words.specs.declared.command.FormWord.{FormWord}
+use Rattle.pim_words.specs.declared.command.FormWord.TheVariants as forms
+use Rattle.pim_words.specs.declared.command.TargetWord.{TargetWord}
+use Rattle.pim_words.specs.declared.command.TargetWord.TheVariants.{Magic, Plim}
 use Rattle.pim_words.specs.declared.command.LevelWord.TheVariants.{Zero}
 
 -- the command line refuses the words, of which the first is the command's name
@@ -25,39 +28,69 @@ refuses words line = not (is_empty (fault_of line words))
 abbrev pub number_of : Text → ℕ
 number_of text = digits_value 10 (without_leading_plus text)
 
--- `compile` with this text after `--cells`
-abbrev pub compile_with : Text → Command
-compile_with cells = Compile Magic Zero (number_of cells)
+-- PLiM where this text after `--target` is `plim`, and else MAGIC
+abbrev pub target_of : Option Text → TargetWord
+target_of (Some text) = if bytes_eq text (codes "plim") then Plim else Magic
+target_of None = Magic
+
+-- `compile` for this target, with this text after `--cells`
+abbrev pub compile_with : TargetWord → Text → Command
+compile_with target cells = commands.Compile target Zero (number_of cells)
 
 -- `compile`, by the matches of its command line
 abbrev pub compile_said : List Row → Option Command
-compile_said rows = option_map compile_with (one_of (codes "cells") rows)
+compile_said rows =
+    option_map (compile_with (target_of (first_of (codes "target") rows)))
+    (one_of (codes "cells") rows)
 
 -- ones where this text stands after `--fill`, and else zeros
 abbrev pub fill_of : Option Text → FillWord
 fill_of (Some text) = if bytes_eq text (codes "ones") then Ones else Zeros
 fill_of None = Zeros
 
--- `run`, by the matches of its command line
-abbrev pub run_said : List Row → Option Command
-run_said rows = Some (Run (fill_of (first_of (codes "fill") rows)))
+-- binary where this text stands after `--form`, and else text
+abbrev pub form_of : Option Text → FormWord
+form_of (Some text) = if bytes_eq text (codes "2") then forms.Binary else forms.Text
+form_of None = forms.Text
 
 -- a command that is built: its command line, and what the matches of that say
 pub record BuiltCommand : Type 0 where
   pub line : App
   pub said : List Row → Option Command
 
+-- the command of this name, which has no option
+abbrev pub without_options : Text → Command → BuiltCommand
+without_options name command = record { line = new_app name; said = λ _. Some command }
+
+-- the command of this name, whose one option is `--fill`
+abbrev pub with_fill : Text → (FillWord → Command) → BuiltCommand
+with_fill name command = record {
+  line = fill_line name;
+  said = λ rows. Some (command (fill_of (first_of (codes "fill") rows)));
+}
+
+-- `compile`
+abbrev pub compile_command : BuiltCommand
+compile_command = record { line = compile_line; said = compile_said }
+
+-- `convert`
+abbrev pub convert_command : BuiltCommand
+convert_command = record {
+  line = convert_line;
+  said = λ rows. Some (commands.Convert (form_of (first_of (codes "form") rows)));
+}
+
 -- the command of this name, where it is built
 abbrev pub cli : Text → Option BuiltCommand
 cli name =
-    if bytes_eq name (codes "compile") then Some (record {
-      line = compile_line;
-      said = compile_said;
-    })
-    else if bytes_eq name (codes "run") then Some (record {
-      line = fill_line (codes "run");
-      said = run_said;
-    })
+    if bytes_eq name (codes "compile") then Some compile_command
+    else if bytes_eq name (codes "run") then Some (with_fill (codes "run") commands.Run)
+    else if bytes_eq name (codes "list") then Some (without_options (codes "list") commands.List)
+    else if bytes_eq name (codes "explain") then Some
+    (without_options (codes "explain") commands.Explain)
+    else if bytes_eq name (codes "asm") then Some (without_options (codes "asm") commands.Asm)
+    else if bytes_eq name (codes "debug") then Some (with_fill (codes "debug") commands.Debug)
+    else if bytes_eq name (codes "convert") then Some convert_command
     else None
 
 -- there is no word, the command is not built, the file that it takes is missing, or its command
@@ -86,5 +119,5 @@ names_command (name ∷ rest) = is_some (cli name)
 
 -- the number of cells is at most that of a whole row
 abbrev pub IsWithin : Command → Type 0
-IsWithin (Compile target level cells) = cells ≤ 1048576
-IsWithin (Run fill) = Unit {0}
+IsWithin (commands.Compile target level cells) = cells ≤ 1048576
+IsWithin _ = Unit {0}

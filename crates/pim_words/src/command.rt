@@ -3,8 +3,10 @@
 /// The kind of machine that a program is made for.
 #[derive(Clone, Copy, Debug, PartialEq, Eq)]
 pub enum TargetWord {
-    /// NOR gates that are executed in a row of memristors.
+    /// `magic`: NOR gates that are executed in a row of memristors.
     Magic,
+    /// `plim`: majorities of three that are executed in a row of memristors.
+    Plim,
 }
 
 /// How much is done to make a program shorter.
@@ -21,6 +23,15 @@ pub enum FillWord {
     Zeros,
     /// One in each cell.
     Ones,
+}
+
+/// The form that a program is written in.
+#[derive(Clone, Copy, Debug, PartialEq, Eq)]
+pub enum FormWord {
+    /// `--form 1`: lines of text.
+    Text,
+    /// `--form 2`: binary.
+    Binary,
 }
 
 /// A command with its options. The file of a program is none of these:
@@ -40,5 +51,21 @@ pub enum Command {
     Run {
         /// The value of `--fill`.
         fill: FillWord,
+    },
+    /// `list`: a program becomes a listing.
+    List,
+    /// `explain`: a program becomes an account of when each cell is used.
+    Explain,
+    /// `asm`: assembly becomes a program.
+    Asm,
+    /// `debug`: a program is executed step by step, as the lines of the input ask.
+    Debug {
+        /// The value of `--fill`.
+        fill: FillWord,
+    },
+    /// `convert`: a program is written in another form, or in its own.
+    Convert {
+        /// The value of `--form`.
+        form: FormWord,
     },
 }

@@ -1,18 +1,20 @@
-//! The words of `compile`: `--target magic --cells N [--level 0]`.
-ghost use Rattle.std.specs.Prelude.{◌≡◌, IfOk, OnOk, false, map, option_map, true, codes};
+//! The words of `compile`: `--target magic|plim --cells N [--level 0]`.
+ghost use Rattle.std.specs.Prelude.{◌≡◌, IfOk, map, option_map, codes};
 ghost use Rattle.std.specs.String.{string_bytes};
-ghost use Rattle.clap.specs.Words.{app_of, found_of, matches_of, one_text, IsParsedFrom};
+ghost use Rattle.clap.specs.Words.{app_of, first_value, found_of, one_text, IsParsedFrom};
 ghost use Rattle.clap.specs.declared.parser.matches.ArgMatches.{ArgMatches};
 ghost use Rattle.pim_words.specs.Lines.{compile_line};
-ghost use Rattle.pim_words.specs.Matches.{HasCells};
-ghost use Rattle.pim_words.specs.Reading.{IsWithin, ReadsAlike, compile_said, compile_with, refuses};
+ghost use Rattle.pim_words.specs.inner.Matches.{HasCells};
+ghost use Rattle.pim_words.specs.Reading.{IsWithin, ReadsAlike, compile_command, compile_with};
+ghost use Rattle.pim_words.specs.Reading.{target_of};
+ghost use Rattle.pim_words.specs.inner.Answer.{IsReading};
 
 use crate::options::{choice_of, option_of};
 use crate::{Command, LevelWord, TargetWord, WordsFault};
 use clap::ArgMatches;
 use std::alloc::{AllocError, Global};
 
-static TARGETS: [&str; 1] = ["magic"];
+static TARGETS: [&str; 2] = ["magic", "plim"];
 
 static LEVELS: [&str; 1] = ["0"];
 
@@ -33,12 +35,7 @@ fn compile_line<'a>(alloc: Global) -> Result<clap::Command<'a>, AllocError>
 
 /// Reads the words of `compile`, the name among them.
 pub fn read_compile(alloc: Global, words: &[String]) -> Result<Command, WordsFault>
-    ensures usage { result ≡ Err WordsFault.Usage
-        → refuses (map string_bytes words.now) compile_line ≡ true }
-    ensures accepted { OnOk result (refuses (map string_bytes words.now) compile_line ≡ false) }
-    ensures value { IfOk result (λ c.
-        compile_said (matches_of compile_line (map string_bytes words.now)) ≡ Some c) }
-    ensures within { IfOk result IsWithin }
+    ensures { IsReading compile_command (map string_bytes words.now) result }
 {
     let line = compile_line(alloc)?;
     let matches = line.try_get_matches_from(words)?;
@@ -48,16 +45,27 @@ pub fn read_compile(alloc: Global, words: &[String]) -> Result<Command, WordsFau
 /// The command that the matches of `compile` say.
 fn compile_of(matches: &ArgMatches) -> Command
     requires { HasCells matches.now }
-    ensures said { option_map compile_with (one_text (found_of matches.now) (codes "cells"))
+    ensures said { let target = target_of (first_value (found_of matches.now) (codes "target")) in
+        option_map (compile_with target) (one_text (found_of matches.now) (codes "cells"))
         ≡ Some result }
     ensures within { IsWithin result }
 {
     match matches.get_one::<u32>("cells") {
         Some(cells) => Command::Compile {
-            target: TargetWord::Magic,
+            target: target_of(matches),
             level: LevelWord::Zero,
             cells,
         },
         None => unreachable!(),
+    }
+}
+
+/// What `--target` says: PLiM where its value is `plim`, and else MAGIC.
+fn target_of(matches: &ArgMatches) -> TargetWord
+    ensures { result ≡ target_of (first_value (found_of matches.now) (codes "target")) }
+{
+    match matches.get_str("target") {
+        Some(text) if text == "plim" => TargetWord::Plim,
+        _ => TargetWord::Magic,
     }
 }

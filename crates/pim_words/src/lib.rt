@@ -1,19 +1,21 @@
 //! The words of each command, read by `clap` into a [`Command`], and when they are refused.
 //!
 //! The first word is the command, and where that takes a program the second names its file. The
-//! others are read by one `clap` command of the name. Today `compile` and `run` are built, and the
-//! name of any other command is refused as unknown.
+//! others are read by one `clap` command of the name. The name of a command that is not built is
+//! refused as unknown.
 #![tactic(auto)]
 
 mod command;
 mod compiling;
+mod converting;
 mod fault;
+mod filling;
+mod no_options;
 mod options;
 mod program;
 mod reading;
-mod running;
 
-pub use command::{Command, FillWord, LevelWord, TargetWord};
+pub use command::{Command, FillWord, FormWord, LevelWord, TargetWord};
 pub use fault::WordsFault;
 pub use program::program_word;
 pub use reading::read;

@@ -1,7 +1,7 @@
 //! The options of a command line.
 ghost use Rattle.clap.specs.declared.builder.value_parser.ValueParser.TheVariants as vp;
 ghost use Rattle.pim_words.specs.Lines.{option_of};
-ghost use Rattle.pim_words.specs.Options.{HasRule};
+ghost use Rattle.pim_words.specs.inner.Options.{HasRule};
 
 use clap::builder::ValueParser;
 use clap::{Arg, ArgAction};

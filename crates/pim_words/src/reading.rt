@@ -1,14 +1,17 @@
 //! Reading the words of any command.
-ghost use Rattle.std.specs.Prelude.{◌≡◌, IfOk, MatchResult, OnOk, false, map, true};
+ghost use Rattle.std.specs.Prelude.{◌≡◌, ◌∷◌, IfOk, MatchResult, OnOk, false, map, true};
 ghost use Rattle.std.specs.String.{string_bytes};
 ghost use Rattle.pim_words.specs.declared.command.Command.{Command};
 ghost use Rattle.pim_words.specs.Plain.{IsPlain, IsTaken};
 ghost use Rattle.pim_words.specs.Program.{lacks_program};
 ghost use Rattle.pim_words.specs.Reading.{IsWithin, command_said, is_usage, names_command};
+ghost use Rattle.pim_words.specs.inner.Answer.{IsAnswer};
 
 use crate::compiling::read_compile;
+use crate::converting::read_convert;
+use crate::filling::{read_debug, read_run};
+use crate::no_options::read_without_options;
 use crate::program::lacks_program;
-use crate::running::read_run;
 use crate::{Command, WordsFault};
 use std::alloc::Global;
 
@@ -39,12 +42,33 @@ pub fn read(alloc: Global, words: &[String]) -> Result<Command, WordsFault>
         return Err(WordsFault::Usage);
     };
     if lacks_program(words) {
-        Err(WordsFault::Usage)
-    } else if name.as_str() == "compile" {
-        read_compile(alloc, words)
-    } else if name.as_str() == "run" {
-        read_run(alloc, rest)
-    } else {
-        Err(WordsFault::Usage)
+        return Err(WordsFault::Usage);
+    }
+    read_named(alloc, name.as_str(), words, rest)
+}
+
+/// Reads the words of the command of this name, which has its file where it takes one. The others
+/// are the words after the name.
+fn read_named(
+    alloc: Global,
+    name: &str,
+    words: &[String],
+    others: &[String],
+) -> Result<Command, WordsFault>
+    requires named { map string_bytes words.now ≡ name.now ∷ map string_bytes others.now }
+    requires filed { lacks_program (map string_bytes words.now) ≡ false }
+    ensures answer { IsAnswer (map string_bytes words.now) result }
+    ensures unknown { names_command (map string_bytes words.now) ≡ false
+        → result ≡ Err WordsFault.Usage }
+{
+    match name {
+        "compile" => read_compile(alloc, words),
+        "run" => read_run(alloc, others),
+        "list" => read_without_options(alloc, "list", others, Command::List),
+        "explain" => read_without_options(alloc, "explain", others, Command::Explain),
+        "asm" => read_without_options(alloc, "asm", words, Command::Asm),
+        "debug" => read_debug(alloc, others),
+        "convert" => read_convert(alloc, words),
+        _ => Err(WordsFault::Usage),
     }
 }

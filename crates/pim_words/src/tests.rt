@@ -1,4 +1,4 @@
-use crate::{Command, FillWord, LevelWord, TargetWord, WordsFault, program_word, read};
+use crate::{Command, FillWord, FormWord, LevelWord, TargetWord, WordsFault, program_word, read};
 use std::alloc::Global;
 use std::test::Fail;
 
@@ -50,6 +50,54 @@ fn reads_run(rt: HostRuntime) -> Result<(), Fail> {
 }
 
 #[test]
+fn reads_compile_for_plim(rt: HostRuntime) -> Result<(), Fail> {
+    let alloc = rt.alloc();
+    let words = words_of(alloc, "compile --target plim --cells 1048576 --level 0")?;
+    let command = read(alloc, &words)?;
+    assert!(rt;
+        command
+            == Command::Compile {
+                target: TargetWord::Plim,
+                level: LevelWord::Zero,
+                cells: 1_048_576,
+            }
+    );
+    Ok(())
+}
+
+#[test]
+fn reads_commands_without_options(rt: HostRuntime) -> Result<(), Fail> {
+    let alloc = rt.alloc();
+    let words = words_of(alloc, "list a")?;
+    assert!(rt; read(alloc, &words)? == Command::List);
+    let words = words_of(alloc, "explain a")?;
+    assert!(rt; read(alloc, &words)? == Command::Explain);
+    let words = words_of(alloc, "asm")?;
+    assert!(rt; read(alloc, &words)? == Command::Asm);
+    Ok(())
+}
+
+#[test]
+fn reads_debug_and_convert(rt: HostRuntime) -> Result<(), Fail> {
+    let alloc = rt.alloc();
+    let words = words_of(alloc, "debug a --fill ones")?;
+    assert!(rt;
+        read(alloc, &words)?
+            == Command::Debug {
+                fill: FillWord::Ones
+            }
+    );
+    let words = words_of(alloc, "convert --form 2")?;
+    assert!(rt;
+        read(alloc, &words)?
+            == Command::Convert {
+                form: FormWord::Binary
+            }
+    );
+    Ok(())
+}
+
+#[test]
 fn refuses_other_words(rt: HostRuntime) -> Result<(), Fail> {
     let alloc = rt.alloc();
     for line in [
@@ -66,13 +114,18 @@ fn refuses_other_words(rt: HostRuntime) -> Result<(), Fail> {
 }
 
 #[test]
-fn refuses_other_words_of_run(rt: HostRuntime) -> Result<(), Fail> {
+fn refuses_other_words_of_others(rt: HostRuntime) -> Result<(), Fail> {
     let alloc = rt.alloc();
     for line in [
         "run",
         "run a --help",
         "run a --fill two",
         "run --fill ones a",
+        "list",
+        "list a b",
+        "asm a",
+        "convert",
+        "convert --form 3",
     ] {
         let words = words_of(alloc, line)?;
         assert!(rt; matches!(read(alloc, &words), Err(WordsFault::Usage)));

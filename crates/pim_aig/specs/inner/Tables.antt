@@ -1,7 +1,8 @@
--- Inner. The literals of signals in a table.
-use Rattle.std.specs.Prelude.{ℕ, List, slice_index_or}
+-- Inner. The literals of signals.
+use Rattle.std.specs.Prelude.{ℕ}
+use Rattle.pim_aig.specs.Graph.{IsOfFirst}
 use Rattle.pim_aig.specs.declared.literal.Lit.{Lit}
 
--- the literals of signals by a table, and false for a signal that the table lacks
-abbrev pub literals_of : List Lit → ℕ → Lit
-literals_of table s = slice_index_or table s (record { 0 = 0 })
+-- each signal's literal is of one of the first n nodes
+abbrev pub AreOfFirst : ℕ → (ℕ → Lit) → Type 0
+AreOfFirst n lits = (s : ℕ) → IsOfFirst n (lits s)

@@ -1,9 +1,7 @@
 -- Inner: types of the code as the definitions see them.
-use Rattle.pim_aiger.specs.Files.{WholeView}
 use Rattle.pim_aiger.specs.HeaderLine.{Form, Text, Binary}
 use Rattle.pim_aiger.specs.Numbers.{HeaderView}
 use Rattle.pim_aiger.specs.SymbolTable.{Port, Input, Output, SymbolView}
-use Rattle.pim_aiger.specs.declared.file.Unjudged.{Unjudged}
 use Rattle.pim_aiger.specs.declared.header.Form.{Form as ReadForm}
 use Rattle.pim_aiger.specs.declared.header.Form.TheVariants as forms
 use Rattle.pim_aiger.specs.declared.header.Header.{Header}
@@ -28,7 +26,3 @@ port_view ports.Output = Output
 -- a symbol without where it lies in memory
 abbrev pub symbol_view : Symbol → SymbolView
 symbol_view symbol = record { port = port_view symbol.port; position = symbol.position; name = symbol.name.now }
-
--- a netlist that was read whole
-abbrev pub whole_view : Unjudged → WholeView
-whole_view whole = record { greatest = whole.greatest; draft = whole.draft }

@@ -6,7 +6,6 @@ use Rattle.pim_net.specs.Cycles.{IsCycle}
 use Rattle.pim_net.specs.Faults.{walk}
 use Rattle.pim_net.specs.WellFormed.{columns}
 use Rattle.pim_net.specs.inner.Drivers.{is_nobody, depth_by, next_by, cycle_by}
-use Rattle.pim_net.specs.inner.Tables.{drivers_of}
 use Rattle.pim_net.specs.declared.limits.TheConstants.{MAX_COLUMNS, MAX_EQUATIONS}
 use Rattle.pim_net.specs.declared.fault.NetFault.{NetFault}
 use Rattle.pim_net.specs.declared.fault.NetFault.TheVariants.{Twice, Undriven, Cycle, NoMemory}
@@ -28,17 +27,16 @@ abbrev pub sig : List Equation → ℕ → ℕ
 sig equations k = slice_index (sigs equations) k
 
 -- the table has each equation as the driver of its signal, and a driver for each column
-pub record IsWired (equations : List Equation) (table : List Driver) : Type 0 where
-  pub named : (k : ℕ) → k < length equations → drivers_of table (sig equations k) ≡ Cover k
-  pub in_table : (k j : ℕ) → k < length equations → j < length (ins equations k) → slice_index (ins equations k) j < length table
-  pub driven : (k j : ℕ) → k < length equations → j < length (ins equations k) → is_nobody (drivers_of table (slice_index (ins equations k) j)) ≡ false
-  pub covers : (s k : ℕ) → drivers_of table s ≡ Cover k → (k < length equations) × (sig equations k ≡ s)
+pub record IsWired (equations : List Equation) (table : ℕ → Driver) : Type 0 where
+  pub named : (k : ℕ) → k < length equations → table (sig equations k) ≡ Cover k
+  pub driven : (k j : ℕ) → k < length equations → j < length (ins equations k) → is_nobody (table (slice_index (ins equations k) j)) ≡ false
+  pub covers : (s k : ℕ) → table s ≡ Cover k → (k < length equations) × (sig equations k ≡ s)
   pub few : length equations < MAX_EQUATIONS
   pub narrow : (k : ℕ) → length (ins equations k) < MAX_COLUMNS
 
 -- the depth of a signal by the table
-abbrev pub deep : List Equation → List Driver → ℕ → Option ℕ
-deep equations table s = depth_by (drivers_of table) equations (suc (length equations)) s
+abbrev pub deep : List Equation → (ℕ → Driver) → ℕ → Option ℕ
+deep equations table s = depth_by table equations (suc (length equations)) s
 
 -- the mark of equation k
 abbrev pub mark : List Mark → ℕ → Mark
@@ -82,13 +80,13 @@ EachBelow depth [] = Unit {0}
 EachBelow depth (f ∷ trail) = (f.depth ≤ depth) × EachBelow depth trail
 
 -- a frame knows the greatest depth of the columns before its own
-pub record IsFrame (equations : List Equation) (table : List Driver) (f : Frame) : Type 0 where
+pub record IsFrame (equations : List Equation) (table : ℕ → Driver) (f : Frame) : Type 0 where
   pub known : f.equation < length equations
   pub within : f.column ≤ length (ins equations f.equation)
   pub depth : deepest (map (deep equations table) (take f.column (ins equations f.equation))) ≡ Some f.depth
 
 -- a trail, latest frame first: each frame's equation drives the column of the frame before it, and no equation comes twice
-abbrev pub IsTrail : List Equation → List Driver → ℕ → List Frame → Type 0
+abbrev pub IsTrail : List Equation → (ℕ → Driver) → ℕ → List Frame → Type 0
 IsTrail equations table root [] = ⊥
 IsTrail equations table root (f ∷ []) = IsFrame equations table f × (f.equation ≡ root)
 IsTrail equations table root (f ∷ g ∷ trail) =
@@ -99,7 +97,7 @@ IsTrail equations table root (f ∷ g ∷ trail) =
     × IsTrail equations table root (g ∷ trail)
 
 -- the marks: what is deep has its depth, what is open is the trail
-pub record IsMarked (equations : List Equation) (table : List Driver) (marks : List Mark) (trail : List Frame) : Type 0 where
+pub record IsMarked (equations : List Equation) (table : ℕ → Driver) (marks : List Mark) (trail : List Frame) : Type 0 where
   pub sized : length marks ≡ length equations
   pub depths : (k depth : ℕ) → mark marks k ≡ Deep depth → (deep equations table (sig equations k) ≡ Some depth) × (depth ≤ count_by is_deep marks)
   pub opens : (k : ℕ) → mark marks k ≡ Open → IsOnTrail k trail
@@ -124,34 +122,34 @@ abbrev pub column_of : List Equation → Frame → ℕ
 column_of equations f = slice_index (ins equations f.equation) f.column
 
 -- what the search meets at a frame
-abbrev pub IsStep : List Equation → List Driver → List Mark → Frame → Step → Type 0
+abbrev pub IsStep : List Equation → (ℕ → Driver) → List Mark → Frame → Step → Type 0
 IsStep equations table marks f Done = f.column ≡ length (ins equations f.equation)
 IsStep equations table marks f (Past depth) =
     (f.column < length (ins equations f.equation))
-    × (marked_depth marks (drivers_of table (column_of equations f)) ≡ Some depth)
+    × (marked_depth marks (table (column_of equations f)) ≡ Some depth)
 IsStep equations table marks f (Into k) =
     (f.column < length (ins equations f.equation))
-    × (drivers_of table (column_of equations f) ≡ Cover k)
+    × (table (column_of equations f) ≡ Cover k)
     × (mark marks k ≡ New)
 IsStep equations table marks f (Round k) =
     (f.column < length (ins equations f.equation))
-    × (drivers_of table (column_of equations f) ≡ Cover k)
+    × (table (column_of equations f) ≡ Cover k)
     × (mark marks k ≡ Open)
 
 -- the search from equation root was done: the marks are whole again, and nothing that was come to is new again
-pub record IsVisited (equations : List Equation) (table : List Driver) (root : ℕ) (before now : List Mark) : Type 0 where
+pub record IsVisited (equations : List Equation) (table : ℕ → Driver) (root : ℕ) (before now : List Mark) : Type 0 where
   pub marked : IsMarked equations table now []
   pub kept : (k : ℕ) → is_new (mark before k) ≡ false → is_new (mark now k) ≡ false
   pub came : is_new (mark now root) ≡ false
 
 -- the search from equation root came round: its signal has no depth, and the walk to the first columns without one gives
 -- this list, which is a cycle; or out of memory
-abbrev pub IsRound : List Equation → List Driver → ℕ → NetFault → Type 0
+abbrev pub IsRound : List Equation → (ℕ → Driver) → ℕ → NetFault → Type 0
 IsRound equations table root (Twice s) = ⊥
 IsRound equations table root (Undriven s) = ⊥
 IsRound equations table root (Cycle cycle) =
     (deep equations table (sig equations root) ≡ None)
-    × (walk (next_by (drivers_of table) (deep equations table) equations) (suc (length equations)) [] (Some (sig equations root)) ≡ cycle)
+    × (walk (next_by table (deep equations table) equations) (suc (length equations)) [] (Some (sig equations root)) ≡ cycle)
     × IsCycle equations cycle
 IsRound equations table root NoMemory = Unit {0}
 
@@ -160,17 +158,17 @@ abbrev pub trail_sigs : List Equation → List Frame → List ℕ
 trail_sigs equations trail = map (λ (f : Frame). sig equations f.equation) trail
 
 -- each equation has the depth of its mark
-pub record IsLevelled (equations : List Equation) (table : List Driver) (marks : List Mark) : Type 0 where
+pub record IsLevelled (equations : List Equation) (table : ℕ → Driver) (marks : List Mark) : Type 0 where
   pub sized : length marks ≡ length equations
   pub all : (k : ℕ) → k < length equations → is_deep (mark marks k) ≡ true
   pub depths : (k : ℕ) → k < length equations → deep equations table (sig equations k) ≡ depth_mark (mark marks k)
 
 -- the list that a walk by the table comes to, which is a cycle; or out of memory
-abbrev pub IsCycleFault : List Equation → List Driver → NetFault → Type 0
+abbrev pub IsCycleFault : List Equation → (ℕ → Driver) → NetFault → Type 0
 IsCycleFault equations table (Twice s) = ⊥
 IsCycleFault equations table (Undriven s) = ⊥
 IsCycleFault equations table (Cycle cycle) =
-    (cycle_by (drivers_of table) (deep equations table) equations ≡ Some cycle) × IsCycle equations cycle
+    (cycle_by table (deep equations table) equations ≡ Some cycle) × IsCycle equations cycle
 IsCycleFault equations table NoMemory = Unit {0}
 
 -- the depth of a mark, 0 where it has none

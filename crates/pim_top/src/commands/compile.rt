@@ -3,14 +3,15 @@ ghost use Rattle.std.specs.Prelude.{◌≡◌, ◌⊎◌, ◌≤◌, length, IfE
 ghost use Rattle.pim_isa.specs.declared.draft.TheConstants.{MAX_CELLS};
 ghost use Rattle.pim_words.specs.declared.command.Command.TheVariants as commands;
 ghost use Rattle.pim_top.specs.Answers.{IsWanting};
-ghost use Rattle.pim_top.specs.commands.Compile.{CompileAnswers, level_of, target_of};
+ghost use Rattle.pim_top.specs.commands.Compile.{CompileAnswers, level_of, machine_of};
 
 use crate::judgement::Judgement;
 use crate::netlist;
 use crate::refusal::Origin;
 use crate::whole::WholeText;
-use pim_compile::{Level, Target, compile};
+use pim_compile::{Level, compile};
 use pim_io::MAX_INPUT;
+use pim_isa::Target;
 use pim_words::{LevelWord, TargetWord};
 use std::alloc::Global;
 
@@ -45,6 +46,8 @@ impl WholeText for Compile {
     fn text(&self, alloc: Global, _opened: &(), input: &[u8]) -> Result<Vec<u8>, Judgement> {
         text_of(alloc, *self, input)
     }
+
+    fn tell_fine(&self) {}
 }
 
 /// The text of the program that a netlist compiles to.
@@ -57,7 +60,7 @@ fn text_of(alloc: Global, words: Compile, bytes: &[u8]) -> Result<Vec<u8>, Judge
         Ok(net) => net,
         Err(fault) => return Err(Judgement::Netlist(fault)),
     };
-    let target = target_of(words.target);
+    let target = machine_of(words.target);
     let level = level_of(words.level);
     let program = match compile(alloc, &net, target, level, words.cells) {
         Ok(program) => program,
@@ -70,11 +73,12 @@ fn text_of(alloc: Global, words: Compile, bytes: &[u8]) -> Result<Vec<u8>, Judge
 }
 
 /// The machine that a word of `--target` names.
-fn target_of(word: TargetWord) -> Target
-    ensures { result ≡ target_of word }
+fn machine_of(word: TargetWord) -> Target
+    ensures { result ≡ machine_of word }
 {
     match word {
         TargetWord::Magic => Target::Magic,
+        TargetWord::Plim => Target::Plim,
     }
 }
 

@@ -1,9 +1,11 @@
 //! `run`: a program is executed on vectors.
 ghost use Rattle.std.specs.Prelude.{◌≡◌, Ok, IfErr, IfOk};
+ghost use Rattle.pim_words.specs.declared.command.Command.TheVariants as commands;
 ghost use Rattle.pim_words.specs.declared.command.FillWord.{FillWord};
 ghost use Rattle.pim_top.specs.Rows.{IsUnloaded, RowsEnd};
 ghost use Rattle.pim_top.specs.Streams.{Stream, seen, stream};
 ghost use Rattle.pim_top.specs.commands.Run.{IsProgramRead, fill_of, run_of};
+ghost use Rattle.pim_top.specs.inner.Faultless.{IsComplete};
 
 use crate::judgement::Judgement;
 use crate::reading::bytes_of;
@@ -21,6 +23,22 @@ use std::alloc::Global;
 /// results of a tile of rows are written when its last line was judged, and the rest at the end of the input. All memory is
 /// taken before the first byte of the input is.
 pub fn run<P: Source, S: Source, K: Sink>(
+    alloc: Global,
+    fill: FillWord,
+    program: &mut P,
+    input: &mut S,
+    output: &mut K,
+) -> Result<(), Refusal>
+    ensures ends { RowsEnd (run_of fill) (seen (stream P.left P.faults program.old program.new)
+        (stream S.left S.faults input.old input.new) (stream K.taken K.faults output.old output.new)) result }
+    ensures complete { IsComplete (commands.Run fill) (seen (stream P.left P.faults program.old program.new)
+        (stream S.left S.faults input.old input.new) (stream K.taken K.faults output.old output.new)) result }
+{
+    execute_rows(alloc, fill, program, input, output)
+}
+
+/// The same, by what the sources give.
+fn execute_rows<P: Source, S: Source, K: Sink>(
     alloc: Global,
     fill: FillWord,
     program: &mut P,

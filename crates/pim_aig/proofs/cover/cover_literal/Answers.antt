@@ -1,7 +1,7 @@
 use Rattle.std.proofs.Common.{[], None, length}
 use Rattle.std.proofs.lemmas.Result.{err_from_is_err_and}
 use Rattle.pim_aig.specs.Chains.{rows_from, cover_from}
-use Rattle.pim_aig.specs.inner.Tables.{literals_of}
+use Rattle.pim_net.specs.Tables.{values as literals_of}
 use Rattle.pim_aig.proofs.Linking.{chain_from-le, Says-le}
 use Rattle.pim_aig.proofs.cover.cover_literal.Goals as goal
 

@@ -1,6 +1,6 @@
 use Rattle.std.proofs.Common.{◌≡◌, None, drop, IfSome}
 use Rattle.pim_aig.specs.Chains.{chain_from, row_literals}
-use Rattle.pim_aig.specs.inner.Tables.{literals_of}
+use Rattle.pim_net.specs.Tables.{values as literals_of}
 use Rattle.pim_aig.specs.Graph.{IsOfFirst, nodes}
 use Rattle.pim_aig.specs.inner.Growing.{Grows}
 use Rattle.pim_aig.proofs.cover.row_chain.Given as goal

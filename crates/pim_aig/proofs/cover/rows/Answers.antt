@@ -1,7 +1,7 @@
 use Rattle.std.proofs.Common.{ℕ, ◌++◌, ◌∷◌, [], List, length, arith, ap, ◌∙◌, subst}
 use Rattle.std.proofs.lemmas.Result.{err_from_is_err_and}
 use Rattle.pim_aig.specs.Chains.{chain, row_literals}
-use Rattle.pim_aig.specs.inner.Tables.{literals_of}
+use Rattle.pim_net.specs.Tables.{values as literals_of}
 use Rattle.pim_aig.specs.Faults.{Says}
 use Rattle.pim_aig.specs.Graph.{nodes}
 use Rattle.pim_aig.specs.declared.literal.Lit.{Lit}

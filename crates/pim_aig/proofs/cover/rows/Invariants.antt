@@ -1,6 +1,6 @@
 use Rattle.std.proofs.Common.{◌≡◌, [], drop, All}
 use Rattle.pim_aig.specs.Chains.{rows_from}
-use Rattle.pim_aig.specs.inner.Tables.{literals_of}
+use Rattle.pim_net.specs.Tables.{values as literals_of}
 use Rattle.pim_aig.specs.Graph.{IsOfFirst, nodes}
 use Rattle.pim_aig.specs.inner.Growing.{Grows}
 use Rattle.pim_aig.proofs.cover.rows.Given as goal

@@ -2,7 +2,7 @@ use Rattle.std.proofs.Common.{◌≡◌, ◌<◌, ℕ, List, All, length, get_or
 use Rattle.std.proofs.lemmas.Option.{slice_get_read}
 use Rattle.std.proofs.lemmas.Result.{err_from_is_err_and}
 use Rattle.pim_net.specs.declared.parts.Equation.{Equation}
-use Rattle.pim_aig.specs.inner.Tables.{literals_of}
+use Rattle.pim_net.specs.Tables.{values as literals_of}
 use Rattle.pim_aig.specs.Flat.{equations_from}
 use Rattle.pim_aig.proofs.TableSteps.{equations_step, equations_fault}
 use Rattle.pim_aig.proofs.flattening.equations.Goals as goal
@@ -21,9 +21,9 @@ returns-in_err-equation-clause-fault c =
     let at : slice_get c.args.net.now.equations k ≡ Some e = subst P c.equations-equations.ensures.equations (slice_get_read c.equations-equations.result.now (length c.equations-equations.result.now) k e refl (within c.args.net.now.equations c.equations-equations.result.now topo c.loop-k.k-index c.equations-equations.ensures.equations c.topo-k-items.ensures.within c.loop-k-test.true) c.index-equations-k.is) in
     let old = c.loop-k.aig in
     let start = c.args.aig.now in
-    let lits = literals_of c.args.table.now.items in
+    let lits = literals_of c.args.table.now in
     let whole = c.loop-k.invariant.rest ∙ ap (λ (ks : List ℕ). equations_from start.inputs c.args.net.now.equations lits start.ands ks) c.topo-k-items.ensures.topo in
-    rw (p.1, p.2) (equations_fault c.in_err-equation.field-0.0 old.inputs c.args.net.now.equations (literals_of c.loop-k.table.items) old.ands topo c.loop-k.k-index (Some e) _ c.loop-k-test.true at c.in_err-equation.ensures.fault whole)
+    rw (p.1, p.2) (equations_fault c.in_err-equation.field-0.0 old.inputs c.args.net.now.equations (literals_of c.loop-k.table) old.ands topo c.loop-k.k-index (Some e) _ c.loop-k-test.true at c.in_err-equation.ensures.fault whole)
 
 pub loop-k-preserved : goal.loop-k-preserved
 loop-k-preserved c =
@@ -35,8 +35,7 @@ loop-k-preserved c =
     let old = c.loop-k.aig in
     let new = c.equation.new.aig in
     record {
-      rest = equations_step old.inputs new.inputs c.args.net.now.equations c.loop-k.table.items c.equation.new.table.items old.ands new.ands topo c.loop-k.k-index (Some e) _ c.loop-k-test.true at c.equation.ensures.grown.inputs_stay c.in_ok-equation.ensures.made c.loop-k.invariant.rest;
-      len = c.equation.ensures.len ∙ c.loop-k.invariant.len;
+      rest = equations_step old.inputs new.inputs c.args.net.now.equations (literals_of c.loop-k.table) (literals_of c.equation.new.table) old.ands new.ands topo c.loop-k.k-index (Some e) _ c.loop-k-test.true at c.equation.ensures.grown.inputs_stay c.in_ok-equation.ensures.made c.loop-k.invariant.rest;
       there = c.in_ok-equation.ensures.there;
       grown = grind arith;
     }

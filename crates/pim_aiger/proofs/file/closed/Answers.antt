@@ -6,9 +6,9 @@ use Rattle.pim_aiger.specs.inner.Views.{header_view}
 use Rattle.pim_aiger.proofs.Many.{Fails-then}
 use Rattle.pim_aiger.proofs.file.closed.Goals as goal
 
-pub returns-in_err-names-clause-exact : goal.returns-in_err-names-clause-exact
+pub returns-in_err-names : goal.returns-in_err-names
 unfolding closing
-returns-in_err-names-clause-exact c =
+returns-in_err-names c =
     let p = err_from_is_err_and c.from_residual.result c.from_residual.ensures.1 in
     let fails = rw (c.place.ensures.place, c.rest.ensures) at c.in_err-names.ensures.exact in
-    rw (p.1, p.2) (Fails-then c.in_err-names.field-0.0 (names_at (header_view c.args.header.now) c.args.reader.now) (λ names. Ok (record { greatest = c.args.header.now.greatest; draft = netlist c.args.inputs.now c.args.outputs.now c.args.draft.equations names })) fails)
+    rw (p.1, p.2) (Fails-then c.in_err-names.field-0.0 (names_at (header_view c.args.header.now) c.args.reader.now) (λ names. Ok (netlist c.args.inputs.now c.args.outputs.now c.args.draft.equations names)) fails)

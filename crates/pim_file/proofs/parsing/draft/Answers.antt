@@ -10,4 +10,4 @@ use Rattle.pim_file.proofs.parsing.draft.Goals as goal
 pub returns-clause-few : goal.returns-clause-few
 returns-clause-few c =
     let read : c.finish.result ≡ read_from within_limit start (lines c.args.bytes.now) = search rules in
-    kept_has_few c.args.bytes.now c.finish.result c.requires read
+    kept_has_few c.line_laws.ensures.one c.args.bytes.now c.finish.result c.requires read

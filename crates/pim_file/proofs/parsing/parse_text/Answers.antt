@@ -6,13 +6,13 @@ pub returns-clause-exact : goal.returns-clause-exact
 returns-clause-exact c = gives_program c.args.bytes.now c.validated.result c.validated.ensures
 
 pub returns-clause-spelled : goal.returns-clause-spelled
-returns-clause-spelled c = gives_text c.args.bytes.now c.validated.result c.validated.ensures
+returns-clause-spelled c = gives_text c.line_laws.ensures.one c.args.bytes.now c.validated.result c.validated.ensures
 
 pub returns-clause-draft : goal.returns-clause-draft
-returns-clause-draft c = draft_of-iff c.args.bytes.now
+returns-clause-draft c = draft_of-iff c.line_laws.ensures.one c.line_laws.ensures.read c.line_laws.ensures.lack c.args.bytes.now
 
 pub returns-clause-line : goal.returns-clause-line
-returns-clause-line c = wrong_line-parse1_of c.args.bytes.now
+returns-clause-line c = wrong_line-parse1_of c.line_laws.ensures.one c.args.bytes.now
 
 pub returns-clause-truncated : goal.returns-clause-truncated
-returns-clause-truncated c = is_truncated-parse1_of c.args.bytes.now
+returns-clause-truncated c = is_truncated-parse1_of c.line_laws.ensures.one c.args.bytes.now

@@ -1,5 +1,6 @@
 use Rattle.std.proofs.Common.{◌≡◌, ℕ, ◌<◌, take, Err, List, [], ◌++◌, ◌∙◌, ap, sym, subst, Ok, codes, length}
-use Rattle.pim_file.specs.Text.{counted_text, head_text, instrs_text, ports_text, text as text_of}
+use Rattle.pim_text.specs.Text.{counted_text, ports_text}
+use Rattle.pim_file.specs.Text.{head_text, instrs_text, text as text_of}
 use Rattle.pim_file.specs.declared.fault.FileFault.TheVariants as faults
 use Rattle.pim_file.specs.ProgramFile.{parse1_of}
 use Rattle.pim_file.proofs.Laws.{parse1_of-text, parse1_of-cut}
@@ -28,6 +29,6 @@ returns c =
     six_pieces _ _ _ _ _ _ _ _ _ _ _ _ _ _ c.new-text.ensures head ins outs cycles body c.in_ok-bytes.ensures c.into_bytes.ensures in
     record {
       text = whole;
-      again = subst (λ (t : List ℕ). parse1_of t ≡ Ok p) (sym whole) (parse1_of-text p c.target.ensures.valid);
-      cut = subst (λ (t : List ℕ). (k : ℕ) → k < length t → parse1_of (take k t) ≡ Err faults.Truncated) (sym whole) (λ k lt. parse1_of-cut p k c.target.ensures.valid lt);
+      again = subst (λ (t : List ℕ). parse1_of t ≡ Ok p) (sym whole) (parse1_of-text c.line_laws.ensures.read c.line_laws.ensures.lack c.line_laws.ensures.program p c.target.ensures.valid);
+      cut = subst (λ (t : List ℕ). (k : ℕ) → k < length t → parse1_of (take k t) ≡ Err faults.Truncated) (sym whole) (λ k lt. parse1_of-cut c.line_laws.ensures.read c.line_laws.ensures.lack c.line_laws.ensures.program p k c.target.ensures.valid lt);
     }

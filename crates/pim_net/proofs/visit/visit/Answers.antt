@@ -3,12 +3,12 @@ use Rattle.std.specs.Prelude.{reverse, count_by}
 use Rattle.std.proofs.lemmas.List.{reverse-append, nil_from_length, length-reverse, length_push}
 use Rattle.pim_net.specs.inner.DepthFirst.{ins, mark, is_new, column_of, marked_depth, IsTrail, IsMarked}
 use Rattle.pim_net.specs.Cycles.{IsCycle}
-use Rattle.pim_net.specs.inner.Tables.{drivers_of}
 use Rattle.pim_net.specs.declared.mark.Mark.TheVariants.{New, Open, Deep}
 use Rattle.pim_net.specs.declared.mark.Frame.{Frame}
 use Rattle.pim_net.proofs.Rounds.{round_is_cycle}
 use Rattle.pim_net.proofs.Trails.{known_all, walk_round}
 use Rattle.pim_net.proofs.Marking.{marks_into, trail_into, marks_done, marked_is, trail_past, marks_past, stays_old, fewer_new, smaller_into}
+use Rattle.pim_net.specs.Tables.{values}
 use Rattle.pim_net.proofs.visit.visit.Goals as goal
 
 -- the last of a path comes first of its trail
@@ -18,7 +18,7 @@ reverse_push xs x = reverse-append xs (x ∷ [])
 pub walk-preserved-in-Some : goal.walk-preserved-in-Some
 walk-preserved-in-Some c =
     let es = c.args.equations.now in
-    let table = c.args.table.now in
+    let table = values c.args.table.now in
     let root = c.args.root in
     let marks = c.walk.marks.items in
     let at = c.walk.at in
@@ -38,7 +38,7 @@ walk-preserved-in-Some c =
 pub returns-in-None-clause-visited : goal.returns-in-None-clause-visited
 returns-in-None-clause-visited c =
     let es = c.args.equations.now in
-    let table = c.args.table.now in
+    let table = values c.args.table.now in
     let root = c.args.root in
     let marks = c.walk.marks.items in
     let at = c.walk.at in
@@ -57,12 +57,12 @@ returns-in-None-clause-visited c =
 pub walk-preserved-in-Past : goal.walk-preserved-in-Past
 walk-preserved-in-Past c =
     let es = c.args.equations.now in
-    let table = c.args.table.now in
+    let table = values c.args.table.now in
     let root = c.args.root in
     let marks = c.walk.marks.items in
     let at = c.walk.at in
     let rest = reverse c.walk.path.items in
-    let told = ap (λ ms. marked_depth ms (drivers_of table (column_of es at))) (sym c.as_slice.ensures.value) ∙ (c.in-Past.ensures).1 in
+    let told = ap (λ ms. marked_depth ms (table (column_of es at))) (sym c.as_slice.ensures.value) ∙ (c.in-Past.ensures).1 in
     let w = marked_is es table marks (at ∷ rest) (column_of es at) c.in-Past.depth c.requires.wired c.walk.invariant.marked told in
     let g : Frame = record { equation = at.equation; column = at.column + 1; depth = c.max.result } in
     record {
@@ -93,7 +93,7 @@ walk-smaller c =
 pub walk-preserved : goal.walk-preserved
 walk-preserved c =
     let es = c.args.equations.now in
-    let table = c.args.table.now in
+    let table = values c.args.table.now in
     let root = c.args.root in
     let marks = c.walk.marks.items in
     let at = c.walk.at in
@@ -112,7 +112,7 @@ walk-preserved c =
     }
 
 pub trail_back-requires-clause-known : goal.trail_back-requires-clause-known
-trail_back-requires-clause-known c = known_all c.args.equations.now c.args.table.now c.args.root (c.walk.at ∷ reverse c.walk.path.items) c.walk.invariant.trail
+trail_back-requires-clause-known c = known_all c.args.equations.now (values c.args.table.now) c.args.root (c.walk.at ∷ reverse c.walk.path.items) c.walk.invariant.trail
 
 pub returns-in-Round-clause-round : goal.returns-in-Round-clause-round
 returns-in-Round-clause-round c =
@@ -122,6 +122,6 @@ returns-in-Round-clause-round c =
     let among = c.walk.invariant.marked.opens k opened in
     let w = c.requires.wired.covers (column_of es c.walk.at) k (c.in-Round.ensures).1 in
     let short : suc (length (reverse c.walk.path.items)) ≤ length es = omega (arith, c.walk.invariant.marked.counted) in
-    let r = walk_round es c.args.table.now c.args.root k c.walk.at (reverse c.walk.path.items) c.requires.wired c.walk.invariant.trail among (c.in-Round.ensures).0 (sym w.1) short in
-    let cycle = round_is_cycle es c.args.table.now c.args.root k c.walk.at (reverse c.walk.path.items) c.walk.invariant.trail among (c.in-Round.ensures).0 (sym w.1) in
+    let r = walk_round es (values c.args.table.now) c.args.root k c.walk.at (reverse c.walk.path.items) c.requires.wired c.walk.invariant.trail among (c.in-Round.ensures).0 (sym w.1) short in
+    let cycle = round_is_cycle es (values c.args.table.now) c.args.root k c.walk.at (reverse c.walk.path.items) c.walk.invariant.trail among (c.in-Round.ensures).0 (sym w.1) in
     (r.0, r.1 ∙ sym c.in_ok-cycle-in-Round.ensures, subst (IsCycle es) (sym c.in_ok-cycle-in-Round.ensures) cycle)

@@ -1,12 +1,13 @@
 use Rattle.std.proofs.Common.{◌≡◌, ◌+◌, ◌*◌, ◌-◌, ◌^◌, ◌∷◌, ℕ, false, length}
 use Rattle.std.specs.Prelude.{reverse, count_by}
 use Rattle.pim_net.specs.inner.DepthFirst.{ins, mark, is_new, IsTrail, IsMarked}
+use Rattle.pim_net.specs.Tables.{values}
 use Rattle.pim_net.proofs.visit.visit.Given as goal
 
 abbrev pub invariant-walk : goal.invariant-walk
 invariant-walk l = record {
-  trail : IsTrail l.equations l.table l.root (l.at ∷ reverse l.path.items);
-  marked : IsMarked l.equations l.table l.marks.items (l.at ∷ reverse l.path.items);
+  trail : IsTrail l.equations (values l.table) l.root (l.at ∷ reverse l.path.items);
+  marked : IsMarked l.equations (values l.table) l.marks.items (l.at ∷ reverse l.path.items);
   kept : (k : ℕ) → is_new (mark l.fn.marks.items k) ≡ false → is_new (mark l.marks.items k) ≡ false;
   came : is_new (mark l.marks.items l.root) ≡ false;
 }

@@ -1,5 +1,5 @@
-use Rattle.std.proofs.Common.{◌≡◌, ◌∙◌, ap, sym, inl, inr}
-use Rattle.pim_top.proofs.Clauses.{call-accepted, call-apart, call-complete, call-decided, call-done, call-file, call-memory, call-nothing, call-plain, call-read, call-usage, call-write, done-only}
+use Rattle.std.proofs.Common.{◌∙◌, ap, sym, inl, inr}
+use Rattle.pim_top.proofs.Clauses.{call-accepted, call-apart, call-decided, call-done, call-file, call-memory, call-nothing, call-plain, call-read, call-usage, call-write, done-only}
 use Rattle.pim_top.proofs.top.pim.Goals as goal
 
 pub returns-clause-ends : goal.returns-clause-ends
@@ -51,7 +51,7 @@ returns-clause-decided g c = λ command file bytes said accepted told_file told_
 
 pub returns-clause-complete : goal.returns-clause-complete
 returns-clause-complete g c = λ command file bytes said accepted told_file told_bytes calm fine.
-    elim (call-complete _ _ c.obey-answer.result c.obey-answer.ensures.obeys command file bytes said accepted told_file told_bytes calm fine) [
+    elim ((c.obey-answer.ensures.complete command said accepted).ends file bytes told_file told_bytes calm fine) [
       | inl d ↦ inl (c.status_of.ensures ∙ d)
       | inr m ↦ inr (c.status_of.ensures ∙ m)
     ]

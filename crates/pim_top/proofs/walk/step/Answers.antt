@@ -1,8 +1,8 @@
-use Rattle.std.proofs.Common.{◌≡◌, ◌<◌, ◌∙◌, ℕ, List, Bool, length, subst, sym, ap}
+use Rattle.std.proofs.Common.{◌≡◌, length, subst}
 use Rattle.std.proofs.lemmas.Result.{err_from_is_err_and}
 use Rattle.pim_batch.specs.Runners.{Runner, results}
 use Rattle.pim_io.specs.Outside.{TookAll, TookFirst}
-use Rattle.pim_top.proofs.WalkSteps.{cut-end, cut-full, room-left, step-end, step-full, step-more, step-refused}
+use Rattle.pim_top.proofs.WalkSteps.{cut-end, cut-full, step-end, step-full, step-more, step-refused}
 use Rattle.pim_top.proofs.walk.step.Goals as goal
 
 pub returns-in_err-take_up-clause-refused : goal.returns-in_err-take_up-clause-refused

@@ -1,4 +1,4 @@
-use Rattle.std.proofs.Common.{◌≡◌, refl, sym, ap, ◌∙◌, arith, length}
+use Rattle.std.proofs.Common.{refl, ap, ◌∙◌, arith, length}
 use Rattle.pim_vectors.specs.Next.{LinesView}
 use Rattle.pim_top.specs.inner.Standing.{first_line}
 use Rattle.pim_top.proofs.WalkSteps.{told-start}

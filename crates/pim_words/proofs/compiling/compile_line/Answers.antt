@@ -3,7 +3,7 @@ use Rattle.std.proofs.lemmas.Result.{IfOk-weaker}
 use Rattle.clap.specs.Words.{App}
 use Rattle.clap.specs.declared.builder.value_parser.ValueParser.TheVariants as vp
 use Rattle.pim_words.specs.Lines.{compile_line, option_of}
-use Rattle.pim_words.specs.Options.{HasRule}
+use Rattle.pim_words.specs.inner.Options.{HasRule}
 use Rattle.pim_words.specs.Reading.{ReadsAlike}
 use Rattle.pim_words.proofs.CompileLine.{cells_read, cells_rule, compile_alike, level_rule, line_is, target_rule}
 use Rattle.pim_words.proofs.OptionRules.{with_default, with_required}

@@ -13,7 +13,7 @@ invariant_of-self-2 c = record {
       c.in_ok-label.ensures.labels);
   output_labels = c.self.invariant.output_labels;
   notes =
-      rw (c.in_ok-push.ensures.items, c.write.ensures, c.first_bad-self-inside.ensures, c.deref.ensures.value, c.len-place.ensures, c.self.inside.inputs.ok.0)
+      rw (c.in_ok-push.ensures.items, c.mark.ensures, c.first_bad-self-inside.ensures, c.deref.ensures.value, c.len-place.ensures, c.self.inside.inputs.ok.0)
       (Notes-push c.self.inside.cells c.self.inside.inputs.items c.self.inside.marks.items c.self.inside.bad_input _ c.make_room.new.marks.items
       c.self.invariant.notes
       (c.in_ok-make_room.ensures.within c.self.invariant.notes.within)

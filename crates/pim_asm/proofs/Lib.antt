@@ -1,0 +1,5 @@
+pub mod BodyLemmas
+pub mod LabelLemmas
+pub mod NameLemmas
+pub mod PartLemmas
+pub mod WordLemmas

@@ -1,0 +1,7 @@
+use Rattle.std.proofs.Common.{◌≡◌, ◌++◌, drop}
+use Rattle.pim_asm.specs.Listing.{ports_listing}
+use Rattle.pim_asm.proofs.listings.push_ports.Given as goal
+
+-- the text so far, with the lines of the ports that are left, is the whole
+abbrev pub invariant-loop-port : goal.invariant-loop-port
+invariant-loop-port l = l.text ++ ports_listing l.word (drop l.port-index l.ports) ≡ l.initial.text ++ ports_listing l.word l.ports

@@ -1,0 +1,7 @@
+pub mod Words
+pub mod Labels
+pub mod Names
+pub mod Statements
+pub mod Assembly
+pub mod Listing
+pub mod inner

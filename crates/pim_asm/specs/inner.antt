@@ -1,0 +1,6 @@
+-- Definitions that only private functions and the keeping of a type cite.
+pub mod Defined
+pub mod Pairs
+pub mod Parts
+pub mod Stages
+pub mod StatementViews

@@ -1,0 +1,4 @@
+pub mod Commands
+pub mod States
+pub mod Answers
+pub mod inner

@@ -1,0 +1,3 @@
+-- Definitions that only private functions and the keeping of a type cite.
+pub mod Histories
+pub mod Counts

@@ -1,8 +1,0 @@
-use Rattle.std.proofs.Common.{◌≡◌, length, drop}
-use Rattle.pim_isa.specs.Results.{with_inputs}
-use Rattle.pim_isa.proofs.row.put_inputs.Given as goal
-
--- the rest of the inputs, on the row so far, gives what all of them give
-abbrev pub invariant-loop-port : goal.invariant-loop-port
-invariant-loop-port l =
-    with_inputs (drop (length l.yielded) l.inputs) (drop (length l.yielded) l.bits) l.row.items ≡ with_inputs l.inputs l.bits l.initial.row.items

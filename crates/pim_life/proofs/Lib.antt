@@ -1,0 +1,4 @@
+mod Examples
+pub mod Ends
+pub mod Followed
+pub mod Joined

@@ -1,0 +1,90 @@
+ghost use Rattle.std.specs.Prelude.{◌≡◌, length, IfOk};
+
+use crate::{End, Life, Start, explain, lives};
+use pim_io::NoMemory;
+use pim_isa::{Cells, Ins, Instr, Operand, Program, ProgramDraft, Target};
+use std::alloc::Global;
+use std::test::Fail;
+
+/// The AND of the cells 0 and 1 in cell 4.
+fn and_draft(alloc: Global) -> Result<ProgramDraft, NoMemory>
+    ensures { IfOk result (λ draft. (length draft.inputs ≡ 2) × (length draft.outputs ≡ 1) × (length draft.instrs ≡ 4)) }
+{
+    let mut draft = ProgramDraft::new(alloc, Target::Magic, 5);
+    draft.add_input(0, b"i0")?;
+    draft.add_input(1, b"i1")?;
+    draft.add_output(4, b"o0")?;
+    let mut cells = Cells::new(alloc);
+    cells.push(2)?;
+    cells.push(3)?;
+    cells.push(4)?;
+    draft.add(Instr::Init(cells))?;
+    draft.add(Instr::Nor {
+        t: 2,
+        ins: Ins::One(1),
+    })?;
+    draft.add(Instr::Nor {
+        t: 3,
+        ins: Ins::One(0),
+    })?;
+    draft.add(Instr::Nor {
+        t: 4,
+        ins: Ins::Two(2, 3),
+    })?;
+    Ok(draft)
+}
+
+/// A life.
+fn life(cell: u32, start: Start, end: End) -> Life {
+    Life { cell, start, end }
+}
+
+#[test]
+fn lists_lives(rt: HostRuntime) -> Result<(), Fail> {
+    let program = Program::new(and_draft(rt.alloc())?)?;
+    let lives = lives(rt.alloc(), &program)?;
+    assert_eq!(rt; lives.len(), 8);
+    assert_eq!(rt; lives[0], life(0, Start::Load, End::Read(2)));
+    assert_eq!(rt; lives[1], life(1, Start::Load, End::Read(1)));
+    assert_eq!(rt; lives[2], life(2, Start::At(0), End::Unread));
+    assert_eq!(rt; lives[3], life(2, Start::At(1), End::Read(3)));
+    assert_eq!(rt; lives[6], life(4, Start::At(0), End::Unread));
+    assert_eq!(rt; lives[7], life(4, Start::At(3), End::Output));
+    Ok(())
+}
+
+#[test]
+fn explains_an_and(rt: HostRuntime) -> Result<(), Fail> {
+    let program = Program::new(and_draft(rt.alloc())?)?;
+    let text = explain(rt.alloc(), &program)?;
+    assert_eq!(rt;
+        text.as_slice(),
+        b"cell 0: in..2\ncell 1: in..1\ncell 2: 0..- 1..3\ncell 3: 0..- 2..3\ncell 4: 0..- 3..out\ncells 5 cycles 4\n".as_slice()
+    );
+    Ok(())
+}
+
+// Cell 0 is an input and an output, cell 1 is read before anything is put there, and cell 2 is written without being read.
+#[test]
+fn explains_an_rm3(rt: HostRuntime) -> Result<(), Fail> {
+    let mut draft = ProgramDraft::new(rt.alloc(), Target::Plim, 4);
+    draft.add_input(0, b"a")?;
+    draft.add_output(0, b"a")?;
+    draft.add(Instr::Rm3 {
+        p: Operand::Zero,
+        q: Operand::One,
+        z: 2,
+    })?;
+    draft.add(Instr::Rm3 {
+        p: Operand::Cell(0),
+        q: Operand::Cell(1),
+        z: 2,
+    })?;
+    let program = Program::new(draft)?;
+    let text = explain(rt.alloc(), &program)?;
+    assert_eq!(rt;
+        text.as_slice(),
+        b"cell 0: in..out\ncell 2: 0..1 1..-\ncells 4 cycles 2\n".as_slice()
+    );
+    Ok(())
+}

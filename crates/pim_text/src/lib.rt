@@ -1,0 +1,19 @@
+//! What the texts of programs share: fields, plain numbers, the lines of targets, numbers, ports and instructions, read and
+//! printed. How a word stands for a cell, and how a line is cut into words, are parameters of the reading of an instruction.
+#![tactic(auto)]
+
+mod cells;
+mod fields;
+mod instrs;
+mod laws;
+mod lines;
+mod printing;
+mod text;
+
+pub use cells::{CellWords, PlainNumbers};
+pub use fields::{Fields, WordWalk, behind, is_text, plain_number};
+pub use instrs::{instr_from, line_instr};
+pub use laws::line_laws;
+pub use lines::{PortLine, counted, port, target};
+pub use printing::{push_instr, push_ports, target_name};
+pub use text::Text;
