@@ -57,21 +57,25 @@ for _ in $(seq "$repetitions"); do
   timed blif 6 out/gates.blif /dev/null "$bin" compile --target magic --cells 1
   timed compile 0 out/gates.aig out/compiled.pim "$bin" compile --target magic --cells 1048576
   timed schedule 0 out/gates.aig out/scheduled.pim out/schedule 1048576
+  timed plim 0 out/gates.aig out/plim.pim "$bin" compile --target plim --cells 1048576
   timed compile-small 0 out/gates.100000.aig out/compiled-small.pim "$bin" compile --target magic --cells 1048576
   timed schedule-small 0 out/gates.100000.aig out/scheduled-small.pim out/schedule 1048576
+  timed plim-small 0 out/gates.100000.aig out/plim-small.pim "$bin" compile --target plim --cells 1048576
 done
 
-# Both programs compute the same.
+# All three programs compute the same.
 for size in '' -small; do
   "$bin" run "out/compiled$size.pim" <out/vectors.64 >out/compiled.results
-  "$bin" run "out/scheduled$size.pim" <out/vectors.64 >out/scheduled.results
-  cmp out/compiled.results out/scheduled.results
+  for other in scheduled plim; do
+    "$bin" run "out/$other$size.pim" <out/vectors.64 >out/other.results
+    cmp out/compiled.results out/other.results
+  done
 done
 
 echo "$(nproc) processors, $(sed -n 's/^model name.*: //p' /proc/cpuinfo | head -n 1); $(clang --version | head -n 1); least of $repetitions"
 printf '%-16s %9s %9s %9s\n' '' 'clock s' 'cpu s' 'MB'
 for name in run lanes64 lanes1 run-long lanes64-long long aiger blif \
-  compile schedule compile-small schedule-small; do shown "$name"; done
+  compile schedule plim compile-small schedule-small plim-small; do shown "$name"; done
 printf '%-32s %9s %9s\n' '' 'clock' 'cpu'
 ratio run lanes64
 ratio run lanes1
@@ -79,3 +83,4 @@ ratio run-long lanes64-long
 ratio compile schedule
 ratio compile-small schedule-small
 ratio compile compile-small
+ratio plim plim-small

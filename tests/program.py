@@ -65,3 +65,18 @@ def stops(answer, status, note, output=b""):
     equal("the note", answer.notes, f"pim: {note}\n".encode())
     equal("the status", answer.status, status)
     equal("the output", answer.output, output)
+
+
+def compile_of(pim, netlist):
+    """The call that compiles a small netlist."""
+    return pim("compile", "--target", "magic", "--cells", "20", stdin=netlist)
+
+
+def has_ports(pim, netlist, inputs, outputs):
+    """A small netlist is compiled, and these are the labels of its inputs and outputs."""
+    answer = compile_of(pim, netlist)
+    equal("the note", answer.notes, b"")
+    equal("the status", answer.status, 0)
+    lines = [line.split(b" ", 2) for line in answer.output.split(b"\n")]
+    equal("the inputs", [line[2] for line in lines if line[0] == b"input"], inputs)
+    equal("the outputs", [line[2] for line in lines if line[0] == b"output"], outputs)

@@ -1,25 +1,11 @@
 """AIGER files of each form: what is taken, and the place and kind of each fault."""
-from program import equal, stops
+from program import compile_of, equal, has_ports, stops
 from test_memory import MB, least, under
 
 AND = b"aag 3 2 0 1 1\n2\n4\n6\n6 4 2\n"
 
 # The header and the output of the AND of two inputs in binary AIGER; two codes have to follow.
 BINARY = b"aig 3 2 0 1 1\n6\n"
-
-
-def compile_of(pim, netlist):
-    return pim("compile", "--target", "magic", "--cells", "20", stdin=netlist)
-
-
-def has_ports(pim, netlist, inputs, outputs):
-    """The netlist is compiled, and these are the labels of its ports."""
-    answer = compile_of(pim, netlist)
-    equal("the note", answer.notes, b"")
-    equal("the status", answer.status, 0)
-    lines = [line.split(b" ", 2) for line in answer.output.split(b"\n")]
-    equal("the inputs", [line[2] for line in lines if line[0] == b"input"], inputs)
-    equal("the outputs", [line[2] for line in lines if line[0] == b"output"], outputs)
 
 
 def refuses(pim, faults):

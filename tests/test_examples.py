@@ -24,10 +24,12 @@ def labels(program, kind):
 def computes(pim, folder, name, outputs_of):
     """The example's programs, in as few cells as it needs and in many, give on every vector what the rule gives.
 
-    The rule takes the inputs' bits by their labels, and gives the outputs' by theirs.
+    The rule takes the inputs' bits by their labels, and gives the outputs' by theirs. A PLiM program is the same in many cells.
     """
-    for cells, fill in (needed()[name], "zeros"), (needed()[name], "ones"), ("1000", "ones"):
-        program = compiled(pim, name, cells)
+    calls = [("magic", needed()[name], "zeros"), ("magic", needed()[name], "ones"), ("magic", "1000", "ones")]
+    calls += [("plim", told(pim, name), "zeros"), ("plim", told(pim, name), "ones")]
+    for target, cells, fill in calls:
+        program = compiled(pim, name, cells, target)
         (folder / "program.pim").write_bytes(program)
         inputs, outputs = labels(program, "input"), labels(program, "output")
         vectors, results = [], []
@@ -43,6 +45,12 @@ def computes(pim, folder, name, outputs_of):
 def needed():
     """The cells that each netlist of the page's table needs, by its file's name."""
     return dict(re.findall(r"^\| `(.*?)` \|.*\| (\d+) \|$", README, re.MULTILINE))
+
+
+def told(pim, name):
+    """The cells that the note names where a PLiM program of the example has none."""
+    answer = pim("compile", "--target", "plim", "--cells", "0", stdin=(EXAMPLES / name).read_bytes())
+    return answer.notes.decode().removeprefix("pim: too few cells: needed ").rstrip("\n")
 
 
 def number(bits, name):

@@ -42,9 +42,9 @@ def test_programs_by_chance(pim, folder):
             gives(answer, "".join(result + "\n" for result in results).encode())
 
 
-def budgets(pim, netlist):
+def budgets(pim, target, netlist):
     """Numbers of cells from the least that a netlist needs on: a dozen, and then as many as it may take."""
-    note = pim("compile", "--target", "magic", "--cells", "0", stdin=netlist).notes
+    note = pim("compile", "--target", target, "--cells", "0", stdin=netlist).notes
     least = int(note.decode().removeprefix("pim: too few cells: needed "))
     return [*range(least, least + 12), 1000]
 
@@ -58,22 +58,22 @@ def test_compiled_programs_from_any_content(pim, folder):
         inputs = len(machine.parsed(pim("compile", "--target", "magic", "--cells", "1000", stdin=netlist).output)[1])
         vectors = ["".join(chance.choice("01") for _ in range(inputs)) for _ in range(10)]
         results = set()
-        for budget in budgets(pim, netlist):
-            text = pim("compile", "--target", "magic", "--cells", str(budget), stdin=netlist).output
+        for target, budget in [(target, budget) for target in ("magic", "plim") for budget in budgets(pim, target, netlist)]:
+            text = pim("compile", "--target", target, "--cells", str(budget), stdin=netlist).output
             shape(name, text, budget)
             (folder / "program.pim").write_bytes(text)
             answer = pim("run", folder / "program.pim", stdin="".join(vector + "\n" for vector in vectors).encode())
             results.add(answer.output)
             for vector, result in zip(vectors, answer.output.decode().split("\n")):
                 row = [chance.randint(0, 1) for _ in range(budget)]
-                equal(f"{name} in {budget} cells on {vector}", machine.executed(text, vector, row), result)
+                equal(f"{name} to {target} in {budget} cells on {vector}", machine.executed(text, vector, row), result)
         equal(f"how many tables of results {name} has", len(results), 1)
 
 
 def shape(name, text, budget):
     """Fails where a program is not primed, or its cells are not those that it says and may have."""
     cells, inputs, outputs, body = machine.parsed(text)
-    named = [int(cell) for line in body for cell in line.split(" ")[1:]]
+    named = [int(cell.lstrip("@")) for line in body for cell in line.split(" ")[1:] if not cell.startswith("#")]
     equal(f"whether {name} is primed", machine.primed(text), True)
     equal(f"whether {name} stays in its {cells} cells of {budget}", max(named + inputs + outputs) < cells <= budget, True)
     equal(f"the inputs of {name}", inputs, list(range(len(inputs))))

@@ -1,5 +1,5 @@
 -- What is read behind a statement.
-use Rattle.std.proofs.Common.{◌≡◌, ℕ, List, Option, Some, None, Ok, Err, refl, sym}
+use Rattle.std.proofs.Common.{◌≡◌, ℕ, List, Some, None, Ok, Err, refl}
 use Rattle.pim_asm.specs.Assembly.{Body, done, missed, after}
 use Rattle.pim_asm.specs.Names.{known_cell}
 use Rattle.pim_asm.specs.Statements.{Statement, statement_of}

@@ -1,5 +1,5 @@
 -- A text has room for its ports and instructions: two bytes and more for each of them.
-use Rattle.std.proofs.Common.{◌≡◌, ℕ, ◌+◌, ◌*◌, ◌<◌, ◌≤◌, Bool, true, false, cond, List, [], ◌∷◌, ◌++◌, length, Option, Some, None, Result, Ok, Err, refl, ap, arith}
+use Rattle.std.proofs.Common.{◌≡◌, ℕ, ◌+◌, ◌*◌, ◌≤◌, Bool, true, false, cond, List, [], ◌∷◌, ◌++◌, length, Option, Some, None, Result, Ok, Err, refl, ap, arith}
 use Rattle.std.specs.Option.{option_map, ok_or, is_some}
 use Rattle.std.specs.Prelude.{IfOk}
 use Rattle.std.proofs.lemmas.List.{length-append}
@@ -8,12 +8,10 @@ use Rattle.pim_io.specs.Lines.{LineView, is_newline, last_line, lines_after, lin
 use Rattle.pim_io.specs.Readings.{◌>>=◌}
 use Rattle.pim_isa.specs.Programs.{ProgramView}
 use Rattle.pim_isa.specs.declared.target.Target.{Target}
-use Rattle.pim_isa.specs.declared.port.Port.{Port}
-use Rattle.pim_isa.specs.declared.instr.Instr.{Instr}
 use Rattle.pim_asm.specs.declared.fault.AsmFault.{AsmFault}
 use Rattle.pim_asm.specs.declared.fault.AsmFault.TheVariants as faults
 use Rattle.pim_asm.specs.Assembly.{Body, Stage, Start, Aimed, Inside, begun, done, missed, after, words_read, line_read, finished, read_from}
-use Rattle.pim_asm.specs.Names.{cell_named, known_cell}
+use Rattle.pim_asm.specs.Names.{with_name, known_cell}
 use Rattle.pim_asm.specs.Statements.{Statement, Let, Input, Output, Does, target_of, count_of, statement_of}
 use Rattle.pim_asm.specs.Words.{words}
 use Rattle.pim_asm.specs.inner.Parts.{HasFewParts}
@@ -76,11 +74,11 @@ grown b c d h e = let same : parts c.draft ≡ parts d.draft = ap (λ (x : Body)
 
 done_parts : (b next : Body) (s : Statement) → done b s ≡ Some next → parts next.draft ≤ parts b.draft + 1
 unfolding parts
-done_parts b next (Let name cell) e = by (is_some (cell_named b.names name)) e
+done_parts b next (Let name cell) e = by (with_name b.names name cell) e
   where
-    by : (t : Bool) → cond t None (Some (record b { names = b.names ++ (name, cell) ∷ [] })) ≡ Some next → parts next.draft ≤ parts b.draft + 1
-    by true e = absurd cc
-    by false e = grown b (record b { names = b.names ++ (name, cell) ∷ [] }) next (omega arith) e
+    by : (o : Option (List (List ℕ × ℕ))) → option_map {T = List (List ℕ × ℕ)} (λ names. record b { names = names }) o ≡ Some next → parts next.draft ≤ parts b.draft + 1
+    by None e = absurd cc
+    by (Some names) e = grown b (record b { names = names }) next (omega arith) e
 done_parts b next (Input port) e = grown b (record b { draft = record b.draft { inputs = b.draft.inputs ++ port ∷ [] } }) next (omega (arith, length-append b.draft.inputs (port ∷ []))) e
 done_parts b next (Output port) e = grown b (record b { draft = record b.draft { outputs = b.draft.outputs ++ port ∷ [] } }) next (omega (arith, length-append b.draft.outputs (port ∷ []))) e
 done_parts b next (Does instr) e = grown b (record b { draft = record b.draft { instrs = b.draft.instrs ++ instr ∷ [] } }) next (omega (arith, length-append b.draft.instrs (instr ∷ []))) e

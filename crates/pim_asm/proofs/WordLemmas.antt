@@ -1,42 +1,45 @@
 -- The words of a line of assembly, cut at its blanks.
-use Rattle.std.proofs.Common.{◌≡◌, ℕ, suc, zero, ◌+◌, ◌-◌, ◌<◌, ◌≤◌, Bool, true, false, not, cond, eqb, ◌||◌, List, [], ◌∷◌, ◌++◌, length, get_or, take, drop, refl, ap, sym, ◌∙◌, arith, add-one, drop-cons}
-use Rattle.std.proofs.lemmas.Bool.{both_ways}
+use Rattle.std.proofs.Common.{◌≡◌, ℕ, suc, ◌+◌, ◌<◌, Bool, true, false, not, ◌||◌, List, [], ◌∷◌, ◌++◌, length, get_or, take, drop, refl, ap, sym, ◌∙◌, arith, add-one, drop-cons}
 use Rattle.std.proofs.lemmas.Bool.Decides.{nat_tests}
-use Rattle.std.proofs.lemmas.List.{take_rest, take_more}
+use Rattle.std.proofs.lemmas.List.{take_more}
 use Rattle.pim_io.specs.Words.{is_blank, close}
-use Rattle.pim_asm.specs.Words.{is_quote, is_semicolon, words_after, words}
+use Rattle.pim_asm.specs.Words.{is_quote, is_semicolon, ends_word, words_after, words}
 
--- a blank is neither a quote nor a semicolon
-
-blank_no_quote : (b : ℕ) → is_blank b ≡ true → is_quote b ≡ false
-blank_no_quote b h = grind (arith, nat_tests)
+-- a blank is no semicolon, and neither is a quote
 
 blank_no_semicolon : (b : ℕ) → is_blank b ≡ true → is_semicolon b ≡ false
 blank_no_semicolon b h = grind (arith, nat_tests)
 
-semicolon_no_quote : (b : ℕ) → is_semicolon b ≡ true → is_quote b ≡ false
-semicolon_no_quote b h = grind (arith, nat_tests)
+quote_ends_nothing : (q : Bool) (b : ℕ) → is_quote b ≡ true → ends_word q b ≡ false
+quote_ends_nothing true b h = refl
+quote_ends_nothing false b h = grind (arith, nat_tests)
+
+plain_ends_nothing : (b : ℕ) → is_semicolon b ≡ false → is_blank b ≡ false → ends_word false b ≡ false
+plain_ends_nothing b h k = rw (h, k) refl
 
 -- one blank at the front
 pub words-blank : (b : ℕ) (text : List ℕ) → is_blank b ≡ true → words (b ∷ text) ≡ words text
-words-blank b text h = rw (blank_no_quote b h, blank_no_semicolon b h, h) refl
+words-blank b text h = rw (blank_no_semicolon b h, h) refl
 
 -- a run and the byte that ends it
 
 words_after-blank : (run : List ℕ) (b : ℕ) (text : List ℕ) → is_blank b ≡ true → words_after false run (b ∷ text) ≡ close run (words (b ∷ text))
-words_after-blank run b text h = rw (blank_no_quote b h, blank_no_semicolon b h, h) refl
+words_after-blank run b text h = rw (blank_no_semicolon b h, h) refl
+
+semicolon_no_blank : (b : ℕ) → is_semicolon b ≡ true → is_blank b ≡ false
+semicolon_no_blank b h = grind (arith, nat_tests)
 
 words_after-semicolon : (run : List ℕ) (b : ℕ) (text : List ℕ) → is_semicolon b ≡ true → words_after false run (b ∷ text) ≡ close run (words (b ∷ text))
-words_after-semicolon run b text h = rw (semicolon_no_quote b h, h) refl
+words_after-semicolon run b text h = rw (semicolon_no_blank b h, h) refl
 
 -- no word stands where a text begins with a semicolon, or is empty
 
 first_semicolon : (b : ℕ) (text : List ℕ) → is_blank b ≡ false → (is_blank b || is_semicolon b) ≡ true → words (b ∷ text) ≡ []
 first_semicolon b text h k =
     let semicolon : is_semicolon b ≡ true = grind (arith, nat_tests) in
-    rw (semicolon_no_quote b semicolon, semicolon) refl
+    rw (h, semicolon) refl
 
-pub no_word : (text : List ℕ) → (0 < length text → is_blank (get_or text 0 0) ≡ false) → (0 < length text → (is_blank (get_or text 0 0) || is_semicolon (get_or text 0 0)) ≡ true) → words text ≡ []
+pub no_word : (text : List ℕ) → (0 < length text → is_blank (get_or text 0 0) ≡ false) → (0 < length text → ends_word false (get_or text 0 0) ≡ true) → words text ≡ []
 no_word [] first stops = refl
 no_word (b ∷ text) first stops = first_semicolon b text (first (omega arith)) (stops (omega arith))
 
@@ -69,7 +72,7 @@ module _ (text : List ℕ) (i : ℕ) (within : i < length text) where
 
   pub more_quote : (q : Bool) → words text ≡ words_after q (take i text) (drop i text) → is_quote (get_or text i 0) ≡ true → words text ≡ words_after (not q) (take (i + 1) text) (drop (i + 1) text)
   more_quote q h e =
-      let step : words_after q (take i text) (get_or text i 0 ∷ drop (suc i) text) ≡ words_after (not q) (take i text ++ get_or text i 0 ∷ []) (drop (suc i) text) = rw e refl in
+      let step : words_after q (take i text) (get_or text i 0 ∷ drop (suc i) text) ≡ words_after (not q) (take i text ++ get_or text i 0 ∷ []) (drop (suc i) text) = rw (quote_ends_nothing q (get_or text i 0) e, e) refl in
       rw add-one (h ∙ ap (λ (t : List ℕ). words_after q (take i text) t) cut_at ∙ step ∙ ap (λ (t : List ℕ). words_after (not q) t (drop (suc i) text)) run_more)
 
   pub more_quoted : words text ≡ words_after true (take i text) (drop i text) → is_quote (get_or text i 0) ≡ false → words text ≡ words_after true (take (i + 1) text) (drop (i + 1) text)
@@ -79,5 +82,5 @@ module _ (text : List ℕ) (i : ℕ) (within : i < length text) where
 
   pub more_plain : words text ≡ words_after false (take i text) (drop i text) → is_quote (get_or text i 0) ≡ false → is_semicolon (get_or text i 0) ≡ false → is_blank (get_or text i 0) ≡ false → words text ≡ words_after false (take (i + 1) text) (drop (i + 1) text)
   more_plain h e f g =
-      let step : words_after false (take i text) (get_or text i 0 ∷ drop (suc i) text) ≡ words_after false (take i text ++ get_or text i 0 ∷ []) (drop (suc i) text) = rw (e, f, g) refl in
+      let step : words_after false (take i text) (get_or text i 0 ∷ drop (suc i) text) ≡ words_after false (take i text ++ get_or text i 0 ∷ []) (drop (suc i) text) = rw (plain_ends_nothing (get_or text i 0) f g, e) refl in
       rw add-one (h ∙ ap (λ (t : List ℕ). words_after false (take i text) t) cut_at ∙ step ∙ ap (λ (t : List ℕ). words_after false t (drop (suc i) text)) run_more)

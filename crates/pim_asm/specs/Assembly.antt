@@ -10,7 +10,7 @@ use Rattle.pim_isa.specs.Programs.{ProgramView}
 use Rattle.pim_isa.specs.Validity.{fault_of}
 use Rattle.pim_asm.specs.declared.fault.AsmFault.{AsmFault}
 use Rattle.pim_asm.specs.declared.fault.AsmFault.TheVariants as faults
-use Rattle.pim_asm.specs.Names.{cell_named, known_cell, any_cell}
+use Rattle.pim_asm.specs.Names.{with_name, known_cell, any_cell}
 use Rattle.pim_asm.specs.Statements.{Statement, target_of, count_of, statement_of}
 use Rattle.pim_asm.specs.Statements as statement
 use Rattle.pim_asm.specs.Words.{words}
@@ -28,28 +28,34 @@ pub data Stage : Type 0 where
 
 -- a draft without ports and instructions, and no names
 abbrev pub begun : Target → ℕ → Body
-begun target cells = record { draft = record { target = target; cells = cells; inputs = []; outputs = []; instrs = [] }; names = [] }
+begun target cells = record {
+  draft = record { target = target; cells = cells; inputs = []; outputs = []; instrs = [] };
+  names = [];
+}
 
 -- what is read once a statement is done; nothing where it defines a name a second time
 abbrev pub done : Body → Statement → Option Body
-done b (statement.Let name cell) = if is_some (cell_named b.names name) then None else Some (record b { names = b.names ++ (name, cell) ∷ [] })
+done b (statement.Let name cell) =
+    option_map {T = List (List ℕ × ℕ)} (λ names. record b { names = names }) (with_name b.names name cell)
 done b (statement.Input port) = Some (record b { draft = record b.draft { inputs = b.draft.inputs ++ port ∷ [] } })
 done b (statement.Output port) = Some (record b { draft = record b.draft { outputs = b.draft.outputs ++ port ∷ [] } })
 done b (statement.Does instr) = Some (record b { draft = record b.draft { instrs = b.draft.instrs ++ instr ∷ [] } })
 
--- words that are no statement with the names so far: a name is wrong if they are one where every name is defined, and else the line is
+-- why words are no statement with the names so far: a name is wrong if they are one where every name is defined; else the line is
 abbrev pub missed : ℕ → List ℕ → List (List ℕ) → AsmFault
 missed n word ws = if is_some (statement_of any_cell word ws) then faults.Name n else faults.Line n
 
 -- what is read behind a statement in the line n, where names stand for their cells
 abbrev pub after : Body → ℕ → List ℕ → List (List ℕ) → Result Body AsmFault
-after b n word ws = ok_or (statement_of (known_cell b.names) word ws) (missed n word ws) >>= λ s. ok_or (done b s) (faults.Name n)
+after b n word ws =
+    ok_or (statement_of (known_cell b.names) word ws) (missed n word ws) >>= λ s. ok_or (done b s) (faults.Name n)
 
 -- what is read behind the line n with these words; a line without words says nothing
 abbrev pub words_read : Stage → ℕ → List (List ℕ) → Result Stage AsmFault
 words_read stage n [] = Ok stage
 words_read Start n (word ∷ ws) = ok_or (option_map (λ target. Aimed target) (target_of (word ∷ ws))) (faults.Line n)
-words_read (Aimed target) n (word ∷ ws) = ok_or (option_map (λ cells. Inside (begun target cells)) (count_of (word ∷ ws))) (faults.Line n)
+words_read (Aimed target) n (word ∷ ws) =
+    ok_or (option_map (λ cells. Inside (begun target cells)) (count_of (word ∷ ws))) (faults.Line n)
 words_read (Inside b) n (word ∷ ws) = after b n word ws >>= λ body. Ok (Inside body)
 
 -- what is read behind a line

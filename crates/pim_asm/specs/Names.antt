@@ -1,5 +1,5 @@
 -- Names that stand for cells.
-use Rattle.std.specs.Prelude.{ℕ, ◌==◌, ◌&&◌, ◌||◌, nat_le, Bool, false, if◌then◌else◌, List, [], ◌∷◌, length, Option, Some, None}
+use Rattle.std.specs.Prelude.{ℕ, ◌==◌, ◌&&◌, ◌||◌, nat_le, Bool, false, if◌then◌else◌, List, [], ◌∷◌, ◌++◌, length, Option, Some, None, is_some}
 use Rattle.std.specs.List.{list_all}
 use Rattle.std.specs.Str.{bytes_eq}
 use Rattle.pim_io.specs.Words.{is_digit, number_of}
@@ -21,6 +21,10 @@ is_name (b ∷ bytes) = begins_name b && nat_le (length bytes) 63 && list_all is
 abbrev pub cell_named : List (List ℕ × ℕ) → List ℕ → Option ℕ
 cell_named [] name = None
 cell_named (known ∷ names) name = if bytes_eq name known.0 then Some known.1 else cell_named names name
+
+-- the names with one more; nothing where it is defined already
+abbrev pub with_name : List (List ℕ × ℕ) → List ℕ → ℕ → Option (List (List ℕ × ℕ))
+with_name names name cell = if is_some (cell_named names name) then None else Some (names ++ (name, cell) ∷ [])
 
 -- the cell that a word stands for, where these names are defined: that of the name, or the number
 abbrev pub known_cell : List (List ℕ × ℕ) → List ℕ → Option ℕ

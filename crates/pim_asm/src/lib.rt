@@ -10,6 +10,8 @@ mod labels;
 mod listings;
 mod names;
 mod statement;
+#[cfg(test)]
+mod tests;
 mod words;
 
 pub use assembling::assemble;

@@ -2,11 +2,13 @@ ghost use Rattle.std.specs.Prelude.{◌≡◌, ◌++◌, ◌≤◌, ◌^◌, len
 ghost use Rattle.pim_asm.specs.Assembly.{asm_of};
 ghost use Rattle.pim_asm.specs.Labels.{hex_digit, escaped, escaped_text};
 ghost use Rattle.pim_asm.specs.Listing.{port_listing, ports_listing, instr_listing, instrs_listing, listing_of};
+ghost use Rattle.std.specs.List.{AllByRecursion};
+ghost use Rattle.pim_asm.specs.inner.Bytes.{AreBytes, HasByteLabel};
 
 use crate::labels::is_clear;
 use pim_io::NoMemory;
 use pim_isa::{Instr, Port, Program};
-use pim_text::{Text, push_instr};
+use pim_text::{Text, line_laws, push_instr, target_name};
 use std::alloc::Global;
 
 /// The hexadecimal digit of a value below 16.
@@ -30,7 +32,8 @@ fn push_byte(text: &mut Text, b: u8) -> Result<(), NoMemory>
 
 /// Bytes as they are written between quotes.
 fn push_escaped(text: &mut Text, bytes: &[u8]) -> Result<(), NoMemory>
-    ensures { OnOk result (text.new ≡ text.old ++ escaped_text bytes.now) }
+    ensures text { OnOk result (text.new ≡ text.old ++ escaped_text bytes.now) }
+    ensures small { OnOk result (AreBytes bytes.now) }
 {
     for b in bytes {
         push_byte(text, *b)?;
@@ -40,7 +43,8 @@ fn push_escaped(text: &mut Text, bytes: &[u8]) -> Result<(), NoMemory>
 
 /// The line of a port, after the word that says which kind it is.
 fn push_port(text: &mut Text, word: &[u8], port: &Port) -> Result<(), NoMemory>
-    ensures { OnOk result (text.new ≡ text.old ++ port_listing word.now port.now) }
+    ensures text { OnOk result (text.new ≡ text.old ++ port_listing word.now port.now) }
+    ensures small { OnOk result (HasByteLabel port.now) }
 {
     text.bytes(word)?;
     text.number(port.cell)?;
@@ -51,7 +55,8 @@ fn push_port(text: &mut Text, word: &[u8], port: &Port) -> Result<(), NoMemory>
 
 /// A line for each port, after the word that says which kind it is.
 fn push_ports(text: &mut Text, word: &[u8], ports: &[Port]) -> Result<(), NoMemory>
-    ensures { OnOk result (text.new ≡ text.old ++ ports_listing word.now ports.now) }
+    ensures text { OnOk result (text.new ≡ text.old ++ ports_listing word.now ports.now) }
+    ensures small { OnOk result (AllByRecursion HasByteLabel ports.now) }
 {
     for port in ports {
         push_port(text, word, port)?;
@@ -85,7 +90,13 @@ pub fn listing(alloc: Global, program: &Program) -> Result<Vec<u8>, NoMemory>
     // The listing is assembled to the program again.
     ensures again { IfOk result (λ bytes. asm_of bytes.items ≡ Ok program.now) }
 {
-    let _ = alloc;
-    let _ = program;
-    Err(NoMemory)
+    line_laws();
+    let mut text = Text::new(alloc);
+    text.bytes(b"target ")?;
+    text.bytes(target_name(program.target()))?;
+    text.counted(b"\ncells ", program.cells())?;
+    push_ports(&mut text, b"input ", program.inputs())?;
+    push_ports(&mut text, b"output ", program.outputs())?;
+    push_instrs(&mut text, program.instrs())?;
+    Ok(text.into_bytes())
 }

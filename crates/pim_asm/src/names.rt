@@ -1,6 +1,6 @@
 ghost use Rattle.std.specs.Prelude.{◌≡◌, [], ◌∷◌, ◌++◌, None, if◌then◌else◌, is_some, IfOk, Some, Option};
 ghost use Rattle.std.specs.List.{list_all};
-ghost use Rattle.pim_asm.specs.Names.{begins_name, is_name_byte, is_name, cell_named, known_cell, any_cell};
+ghost use Rattle.pim_asm.specs.Names.{begins_name, is_name_byte, is_name, cell_named, with_name, known_cell, any_cell};
 ghost use Rattle.pim_asm.specs.inner.Defined.{defined};
 
 use indexmap::IndexMap;
@@ -76,8 +76,7 @@ impl<'a> Names<'a> {
 
     /// Defines a name, if it isn't defined yet. Expected constant time, beside the length of the name.
     pub(crate) fn define(&mut self, name: &'a [u8], cell: u32) -> Result<bool, NoMemory>
-        ensures { IfOk result (λ fresh. (if is_some (cell_named self.old name.now) then None else Some (self.old ++ (name.now, cell) ∷ []))
-            ≡ (if fresh then Some self.new else None)) }
+        ensures { IfOk result (λ fresh. with_name self.old name.now cell ≡ (if fresh then Some self.new else None)) }
     {
         if self.cell(name).is_some() {
             return Ok(false);

@@ -71,7 +71,11 @@ pub(crate) fn count(line: &[u8]) -> Option<u32>
         return None;
     }
     let cells = number(count)?;
-    if cells <= MAX_CELLS { Some(cells) } else { None }
+    if cells <= MAX_CELLS {
+        Some(cells)
+    } else {
+        None
+    }
 }
 
 /// A port: its cell and its label.
@@ -108,7 +112,8 @@ pub(crate) fn read_statement<'a, C: CellWords>(
     word: &[u8],
     text: &'a [u8],
 ) -> Result<Option<Statement<'a>>, NoMemory>
-    ensures { IfOk result (λ statement. option_map statement_view statement ≡ statement_of (C.cell_of cells.now) word.now (words text.now)) }
+    ensures { IfOk result (λ statement.
+        option_map statement_view statement ≡ statement_of (C.cell_of cells.now) word.now (words text.now)) }
 {
     if is_text(word, b"let") {
         return Ok(definition(text));

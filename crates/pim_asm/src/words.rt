@@ -1,6 +1,6 @@
-ghost use Rattle.std.specs.Prelude.{◌≡◌, ◌<◌, ◌≤◌, ◌||◌, true, false, length, take, drop, slice_index};
+ghost use Rattle.std.specs.Prelude.{◌≡◌, ◌<◌, ◌≤◌, true, false, length, take, drop, slice_index};
 ghost use Rattle.pim_io.specs.Words.{is_blank, close};
-ghost use Rattle.pim_asm.specs.Words.{is_semicolon, words};
+ghost use Rattle.pim_asm.specs.Words.{ends_word, words};
 
 use pim_io::is_blank;
 use pim_text::WordWalk;
@@ -68,7 +68,7 @@ fn behind_blanks(text: &[u8]) -> &[u8]
 fn word_len(text: &[u8]) -> usize
     ensures within { result ≤ length text.now }
     ensures words { words text.now ≡ close (take result text.now) (words (drop result text.now)) }
-    ensures stops { result < length text.now → (is_blank (slice_index text.now result) || is_semicolon (slice_index text.now result)) ≡ true }
+    ensures stops { result < length text.now → ends_word false (slice_index text.now result) ≡ true }
 {
     let mut quoted = false;
     for (i, b) in text.iter().enumerate() {

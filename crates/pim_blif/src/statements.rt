@@ -94,23 +94,3 @@ fn gather<'a>(scan: &mut Scan<'a>, words: &mut Vec<Word<'a>>) -> Result<Option<u
     }
     Ok(begun)
 }
-
-#[cfg(test)]
-mod tests {
-    use super::*;
-    use std::test::Fail;
-
-    #[test]
-    fn lines_are_joined(rt: HostRuntime) -> Result<(), Fail> {
-        let mut walk = Statements::new(rt.alloc(), b"\na \\ # b\nc\n#\n.e");
-        assert_eq!(rt; walk.advance()?, Some(2));
-        assert_eq!(rt; walk.words().len(), 2);
-        assert_eq!(rt; walk.words()[0].bytes(), b"a".as_slice());
-        assert_eq!(rt; walk.words()[1].bytes(), b"c".as_slice());
-        assert_eq!(rt; walk.advance()?, Some(5));
-        assert_eq!(rt; walk.words().len(), 1);
-        assert_eq!(rt; walk.words()[0].bytes(), b".e".as_slice());
-        assert_eq!(rt; walk.advance()?, None);
-        Ok(())
-    }
-}

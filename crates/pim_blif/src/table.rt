@@ -69,19 +69,3 @@ impl<'a> NameTable<'a> {
         }
     }
 }
-
-#[cfg(test)]
-mod tests {
-    use super::*;
-    use std::test::Fail;
-
-    #[test]
-    fn names_are_numbered(rt: HostRuntime) -> Result<(), Fail> {
-        let mut table = NameTable::new(rt.alloc());
-        assert_eq!(rt; table.number(b"b")?, Some(0));
-        assert_eq!(rt; table.number(b"a\x07")?, Some(1));
-        assert_eq!(rt; table.number(b"b")?, Some(0));
-        assert!(rt; table.name(1) == b"a\x07".as_slice());
-        Ok(())
-    }
-}

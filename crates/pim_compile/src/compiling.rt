@@ -88,11 +88,7 @@ pub fn compile(
     ensures refused { IfErr result (IsRefusal net.now target budget) }
     ensures coarse { IfErr result (IsCoarse net.now target budget) }
 {
-    let aig = match flatten(alloc, net) {
-        Ok(aig) => aig,
-        Err(FlatFault::TooLarge) => return Err(Refusal::TooLarge),
-        Err(FlatFault::NoMemory) => return Err(Refusal::NoMemory),
-    };
+    let aig = flatten(alloc, net)?;
     let ports = ports_of(alloc, net)?;
     scheduled(alloc, &aig, &ports, target, level, budget)
 }

@@ -5,6 +5,8 @@ mod compiling;
 mod magic;
 mod ports;
 mod refusal;
+#[cfg(test)]
+mod tests;
 
 pub use compiling::{Level, compile, need};
 pub use refusal::Refusal;

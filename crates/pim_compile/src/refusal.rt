@@ -1,3 +1,4 @@
+use pim_aig::FlatFault;
 use pim_io::NoMemory;
 use thiserror::Error;
 
@@ -23,5 +24,19 @@ impl From<NoMemory> for Refusal {
 
     fn from(_error: NoMemory) -> Refusal {
         Refusal::NoMemory
+    }
+}
+
+impl From<FlatFault> for Refusal {
+    ghost use Rattle.std.specs.Prelude.{◌≡◌};
+    ghost use Rattle.pim_compile.specs.inner.Candidates.{refusal_of};
+
+    ghost from_gives = { λ fault e. e ≡ refusal_of fault };
+
+    fn from(fault: FlatFault) -> Refusal {
+        match fault {
+            FlatFault::TooLarge => Refusal::TooLarge,
+            FlatFault::NoMemory => Refusal::NoMemory,
+        }
     }
 }

@@ -1,11 +1,9 @@
 -- A draft is read from its binary form, and from no other bytes.
-use Rattle.std.proofs.Common.{◌≡◌, ℕ, zero, suc, ◌+◌, ◌-◌, ◌*◌, ◌^◌, ◌<◌, ◌≤◌, Bool, true, false, cond, eqb, List, [], ◌∷◌, ◌++◌, length, codes, Option, Some, None, Result, Ok, Err, refl, ap, sym, ◌∙◌, append_assoc, length-append, subst, arith, take, drop}
-use Rattle.std.specs.Prelude.{nat_eq}
-use Rattle.std.specs.List.{AllByRecursion, starts_with}
+use Rattle.std.proofs.Common.{◌≡◌, ℕ, zero, suc, ◌+◌, ◌-◌, ◌*◌, ◌^◌, ◌<◌, ◌≤◌, Bool, true, false, cond, eqb, List, [], ◌∷◌, ◌++◌, length, Some, None, Ok, Err, refl, ap, sym, ◌∙◌, append_assoc, length-append, subst, arith, take, drop}
+use Rattle.std.specs.List.{AllByRecursion}
 use Rattle.std.proofs.lemmas.Bool.{eqb-true, ne_eqb}
 use Rattle.std.proofs.lemmas.Slice.Eq.{bytes_eq-Decides}
 use Rattle.std.proofs.lemmas.List.{append-nil, take-append-drop}
-use Rattle.pim_io.specs.Names.{IsLabel}
 use Rattle.pim_io.specs.Codes.{code_of}
 use Rattle.pim_io.specs.Readings.{◌>>=◌}
 use Rattle.pim_io.specs.declared.limits.TheConstants.{MAX_PROGRAM}
@@ -19,10 +17,8 @@ use Rattle.pim_isa.specs.declared.instr.Operand.TheVariants.{Zero, One, Cell}
 use Rattle.pim_isa.specs.declared.instr.Instr.{Instr}
 use Rattle.pim_isa.specs.declared.instr.Instr.TheVariants.{Init, Nor, Rm3}
 use Rattle.pim_isa.specs.Programs.{ProgramView}
-use Rattle.pim_text.specs.Spelled.{AreSpelled, HasPortLine}
-use Rattle.pim_file.specs.declared.fault.FileFault.{FileFault}
-use Rattle.pim_file.specs.declared.fault.FileFault.TheVariants as faults
-use Rattle.pim_file.specs.Items.{Cursor, wrong_before, allowed, byte_at, shown_at, number_at, length_at, is_label_length, many, counted}
+use Rattle.pim_text.specs.Spelled.{HasPortLine}
+use Rattle.pim_file.specs.Items.{Cursor, wrong_before, allowed, byte_at, shown_at, number_at, length_at, many, counted}
 use Rattle.pim_file.specs.BinaryReading.{target_of_byte, target_at, port_at, init_at, nor1_at, nor2_at, nor3_at, nor4_at, operand_of_number, operand_number_at, rm3_at, instr_behind, instr_at, draft_at, closed_at, tag, is_binary, draft2_of}
 use Rattle.pim_file.specs.Binary.{target_byte, each_bin, counted_bin, numbers_bin, port_bin, operand_number, nor_bin, instr_bin, body_bin, bin}
 use Rattle.pim_file.specs.BinarySpelled.{HasBytes, HasBinary}

@@ -1,12 +1,12 @@
 -- Seven-bit codes as this form has them: each number in its shortest spelling.
-use Rattle.std.proofs.Common.{◌≡◌, ℕ, zero, suc, ◌+◌, ◌-◌, ◌*◌, ◌/◌, ◌%◌, ◌^◌, ◌<◌, ◌≤◌, Bool, true, false, cond, not, ◌&&◌, ◌||◌, eqb, ltb, leb, List, [], ◌∷◌, ◌++◌, length, refl, ap, sym, ◌∙◌, arith, get_or, take, drop, nat_lt, nat_le, add-one, subst, length-append}
+use Rattle.std.proofs.Common.{◌≡◌, ℕ, zero, suc, ◌+◌, ◌-◌, ◌*◌, ◌/◌, ◌%◌, ◌^◌, ◌<◌, ◌≤◌, Bool, true, false, cond, not, ◌||◌, eqb, List, [], ◌∷◌, ◌++◌, length, refl, ap, sym, ◌∙◌, arith, get_or, take, nat_lt, nat_le, add-one, subst, length-append}
 use Rattle.std.specs.Str.{bytes_eq}
 use Rattle.std.proofs.lemmas.Bool.Decides.{nat_tests}
 use Rattle.std.proofs.lemmas.Bool.{false≢true, eq-eqb, ne_eqb}
 use Rattle.std.proofs.lemmas.List.{take_at}
 use Rattle.std.proofs.Math.Nat.{pow-suc}
 use Rattle.pim_io.specs.declared.codes.Code.TheVariants.{Got, Long, Short}
-use Rattle.pim_io.specs.Codes.{code_value, high_len, is_high, code_past, first_code, code_at, code_within, code_of}
+use Rattle.pim_io.specs.Codes.{code_value, high_len, is_high, code_at, code_within, code_of}
 
 -- the tests of a code that is read
 pub got_at : (long within small : Bool) (value' next' value next : ℕ) → cond long Long (cond within (cond small (Got value' next') Long) Short) ≡ Got value next → (long ≡ false) × (within ≡ true) × (small ≡ true) × (value' ≡ value) × (next' ≡ next)

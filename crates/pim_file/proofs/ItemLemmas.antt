@@ -1,11 +1,10 @@
 -- What each item that is read says of the bytes, and what its spelling is read as.
-use Rattle.std.proofs.Common.{◌≡◌, ℕ, zero, suc, ◌+◌, ◌-◌, ◌^◌, ◌<◌, ◌≤◌, Bool, true, false, cond, ◌&&◌, List, [], ◌∷◌, ◌++◌, length, Option, Some, None, Result, Ok, Err, refl, ap, sym, ◌∙◌, append_assoc, subst, arith, take, drop, nat_le}
-use Rattle.std.specs.Prelude.{All}
+use Rattle.std.proofs.Common.{◌≡◌, ℕ, zero, suc, ◌+◌, ◌^◌, ◌<◌, ◌≤◌, Bool, true, false, cond, List, [], ◌∷◌, ◌++◌, length, Some, None, Result, Ok, Err, refl, ap, sym, ◌∙◌, append_assoc, subst, arith, take, drop, nat_le}
 use Rattle.std.specs.List.{AllByRecursion}
 use Rattle.std.specs.Str.{bytes_eq}
 use Rattle.std.proofs.lemmas.Bool.Decides.{nat_tests}
 use Rattle.std.proofs.lemmas.Bool.{and_parts, leb-true}
-use Rattle.std.proofs.lemmas.List.{append-nil, take_at, drop_at, take-append-drop}
+use Rattle.std.proofs.lemmas.List.{take_at, drop_at, take-append-drop}
 use Rattle.std.proofs.lemmas.Slice.Eq.{bytes_eq-Decides}
 use Rattle.std.proofs.lemmas.List.Elements.{All-from_recursion, recursion_from_All}
 use Rattle.pim_io.specs.declared.codes.Code.{Code}
@@ -15,7 +14,6 @@ use Rattle.pim_io.specs.Codes.{code_of, code_at}
 use Rattle.pim_io.specs.Names.{IsShown, IsLabel, is_shown}
 use Rattle.pim_io.specs.Readings.{◌>>=◌}
 use Rattle.pim_file.specs.declared.fault.FileFault.{FileFault}
-use Rattle.pim_file.specs.declared.fault.FileFault.TheVariants as faults
 use Rattle.pim_file.specs.Items.{Cursor, further, wrong_before, allowed, byte_from, byte_at, shown_at, number_of_code, number_at, is_label_length, length_at, many, counted}
 use Rattle.pim_file.specs.Binary.{each_bin, counted_bin}
 use Rattle.pim_file.proofs.CodeLemmas.{code_is_read, code_is_small}

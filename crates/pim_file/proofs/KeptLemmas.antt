@@ -1,7 +1,7 @@
 -- What is kept of a binary program file while it is read, and that it ends as the definition says.
-use Rattle.std.proofs.Common.{◌≡◌, ℕ, Bool, true, false, cond, ltb, List, [], ◌∷◌, ◌++◌, Option, Some, None, Result, Ok, Err, refl, ap, sym, ◌∙◌, append_assoc, drop, subst, length, ◌≤◌}
+use Rattle.std.proofs.Common.{◌≡◌, ℕ, Bool, true, false, cond, ltb, List, [], ◌∷◌, Option, Some, None, Result, Ok, Err, refl, ap, sym, ◌∙◌, append_assoc, drop, subst, length, ◌≤◌}
 use Rattle.pim_io.specs.declared.limits.TheConstants.{MAX_PROGRAM}
-use Rattle.std.specs.Option.{option_map, ok_or}
+use Rattle.std.specs.Option.{ok_or}
 use Rattle.std.proofs.lemmas.List.{append-nil}
 use Rattle.pim_io.specs.Readings.{◌>>=◌}
 use Rattle.pim_isa.specs.declared.target.Target.{Target}
@@ -95,7 +95,7 @@ parse2_of-kept bytes = ap (λ (r : Result ProgramView FileFault). r >>= validate
 
 -- what is kept to the end has few parts
 
-size_cases : (large : Bool) (d e : ProgramView) → cond large (Err faults.TooLarge) (Ok d) ≡ Ok e → d ≡ e
+pub size_cases : (large : Bool) (d e : ProgramView) → cond large (Err faults.TooLarge) (Ok d) ≡ Ok e → d ≡ e
 size_cases true d e h = absurd cc
 size_cases false d e h = ok_is d e h
 

@@ -113,7 +113,7 @@ parse1_of-kept bytes = ap (λ (x : Result ProgramView FileFault). x >>= validate
 
 -- nothing but its text is read as a program
 
-fault_cases : (fault : Option Invalid) (d p : ProgramView) → with_fault d fault ≡ Ok p → d ≡ p
+pub fault_cases : (fault : Option Invalid) (d p : ProgramView) → with_fault d fault ≡ Ok p → d ≡ p
 fault_cases None d p e = ok_is d p e
 fault_cases (Some invalid) d p e = absurd cc
 

@@ -1,6 +1,6 @@
 -- Things read one after another, as a loop reads them.
-use Rattle.std.proofs.Common.{◌≡◌, ℕ, zero, suc, ◌-◌, ◌+◌, ◌≤◌, ◌<◌, List, [], ◌∷◌, ◌++◌, Result, Ok, Err, refl, sym, ap, ◌∙◌, length, take, drop, get_or, length-drop, drop-cons, add-one, append_assoc, inl, inr, arith}
-use Rattle.std.proofs.lemmas.List.{append-nil, take_more}
+use Rattle.std.proofs.Common.{◌≡◌, ℕ, suc, ◌-◌, ◌+◌, ◌≤◌, ◌<◌, List, [], ◌∷◌, ◌++◌, Result, Ok, Err, refl, sym, ap, ◌∙◌, length, take, drop, get_or, length-drop, drop-cons, add-one, append_assoc, inl, inr, arith}
+use Rattle.std.proofs.lemmas.List.{take_more}
 use Rattle.pim_io.specs.Readings.{◌>>=◌, Fails}
 use Rattle.pim_file.specs.declared.fault.FileFault.{FileFault}
 use Rattle.pim_file.specs.declared.fault.FileFault.TheVariants as faults

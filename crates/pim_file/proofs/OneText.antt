@@ -222,7 +222,6 @@ module _ (laws : OneLine) where
   line_stands section.Outputs draft read line next h e = outputs_stand read line draft next h e
   line_stands (section.Instrs left) draft read line next h e = instrs_stand read line (eqb left 0) left draft next refl h e
   line_stands section.Ended draft read line next h e = absurd cc
-
   -- the bytes of lines
 
 abbrev line_bytes : LineView → List ℕ

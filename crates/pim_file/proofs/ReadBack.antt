@@ -1,25 +1,18 @@
 -- The text of a draft is read as that draft.
 use Rattle.std.proofs.Common.{◌≡◌, ℕ, zero, suc, ◌+◌, ◌-◌, ◌^◌, ◌<◌, ◌≤◌, inl, inr, take, Bool, true, false, not, eqb, List, [], ◌∷◌, ◌++◌, length, Some, None, Result, Ok, Err, codes, refl, ap, sym, ◌∙◌, subst, append_assoc, arith}
 use Rattle.std.specs.Fmt.{decimal}
-use Rattle.std.specs.List.{list_all, AllByRecursion}
-use Rattle.std.proofs.lemmas.Bool.{and_parts, not-true, leb-true, ne_eqb, cases_lt}
+use Rattle.std.specs.List.{AllByRecursion}
+use Rattle.std.proofs.lemmas.Bool.{and_parts, not-true, ne_eqb, cases_lt}
 use Rattle.std.proofs.lemmas.List.{append-nil, length-append, take-append-le}
 use Rattle.std.proofs.Math.Seq.{take-append-add}
 use Rattle.pim_io.specs.Lines.{LineView, is_newline, last_line, lines_after}
 use Rattle.pim_isa.specs.declared.target.Target.{Target}
-use Rattle.pim_isa.specs.declared.target.Target.TheVariants.{Magic, Plim}
 use Rattle.pim_isa.specs.declared.port.Port.{Port}
-use Rattle.pim_isa.specs.declared.instr.Ins.{Ins}
-use Rattle.pim_isa.specs.declared.instr.Ins.TheVariants.{Two, Three, Four, One as Single}
-use Rattle.pim_isa.specs.declared.instr.Operand.{Operand}
-use Rattle.pim_isa.specs.declared.instr.Operand.TheVariants.{Zero, One, Cell}
 use Rattle.pim_isa.specs.declared.instr.Instr.{Instr}
-use Rattle.pim_isa.specs.declared.instr.Instr.TheVariants.{Init, Nor, Rm3}
 use Rattle.pim_isa.specs.Programs.{ProgramView}
 use Rattle.pim_file.specs.declared.fault.FileFault.{FileFault}
 use Rattle.pim_file.specs.declared.fault.FileFault.TheVariants as faults
 use Rattle.pim_file.specs.Sections as section
-use Rattle.pim_io.specs.Names.{is_shown, is_label}
 use Rattle.pim_file.specs.Spelled.{HasText}
 use Rattle.pim_text.specs.Spelled.{HasLine, HasPortLine}
 use Rattle.pim_text.specs.Fields.{lacks}

@@ -1,5 +1,5 @@
 -- Which drafts have a binary form: those whose numbers are below 2 ^ 32, and whose labels are labels.
-use Rattle.std.specs.Prelude.{ℕ, ◌^◌, ◌<◌, List, ◌∷◌, [], length}
+use Rattle.std.specs.Prelude.{◌^◌, ◌<◌, ◌∷◌, [], length}
 use Rattle.std.specs.List.{AllByRecursion}
 use Rattle.pim_isa.specs.declared.instr.Instr.{Instr}
 use Rattle.pim_isa.specs.declared.instr.Instr.TheVariants.{Init, Nor, Rm3}

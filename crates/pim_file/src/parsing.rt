@@ -1,6 +1,7 @@
-ghost use Rattle.std.specs.Prelude.{◌≡◌, ◌≤◌, ◌↔◌, ◌⊎◌, [], length, Ok, IfOk};
+ghost use Rattle.std.specs.Prelude.{◌≡◌, ◌≤◌, ◌↔◌, ◌⊎◌, [], length, Ok, IfOk, IsTrue};
 ghost use Rattle.pim_io.specs.Lines.{lines};
 ghost use Rattle.pim_isa.specs.Programs.{ProgramView};
+ghost use Rattle.pim_isa.specs.Sound.{IsProgram};
 ghost use Rattle.pim_file.specs.Spelled.{HasText};
 ghost use Rattle.pim_file.specs.inner.Kept.{HasFewParts};
 ghost use Rattle.pim_io.specs.Readings.{Gives};
@@ -9,7 +10,8 @@ ghost use Rattle.pim_file.specs.Reading.{start};
 ghost use Rattle.pim_file.specs.Right.{first_wrong, is_cut_off, wrong_line, is_truncated};
 ghost use Rattle.pim_file.specs.ProgramFile.{read_from, draft_of, parse1_of};
 ghost use Rattle.pim_file.specs.Binary.{bin};
-ghost use Rattle.pim_file.specs.BinaryReading.{parse_of};
+ghost use Rattle.pim_file.specs.BinaryReading.{is_binary, draft2_of, parse_of};
+ghost use Rattle.pim_file.specs.BinarySpelled.{HasBinary};
 ghost use Rattle.pim_file.specs.inner.Kept.{within_limit, program_within_limit};
 
 use crate::binary::{has_tag, parse_binary};
@@ -46,8 +48,21 @@ pub fn parse(alloc: Global, bytes: &[u8]) -> Result<Program, FileFault>
     requires { length bytes.now ≤ MAX_PROGRAM }
     ensures exact { Gives FileFault.NoMemory (λ program. program) result (parse_of bytes.now) }
 
-    // No other bytes are read as this program.
-    ensures spelled { IfOk result (λ program. (bytes.now ≡ text_of program) ⊎ (bytes.now ≡ bin program)) }
+    // Each spelling of a program is read as it, and no other bytes are.
+    ensures read { (p : ProgramView) → IsProgram p → ((bytes.now ≡ text_of p) ⊎ (bytes.now ≡ bin p)) → parse_of bytes.now ≡ Ok p }
+    ensures spelled { (p : ProgramView) → parse_of bytes.now ≡ Ok p → (bytes.now ≡ text_of p) ⊎ (bytes.now ≡ bin p) }
+
+    // The draft of a binary file is the one whose form the bytes are.
+    ensures draft { IsTrue (is_binary bytes.now) → (d : ProgramView) → (draft2_of bytes.now ≡ Ok d) ↔ (HasBinary d × (bytes.now ≡ bin d)) }
+{
+    line_laws();
+    either(alloc, bytes)
+}
+
+/// The program of a file in the form that its first bytes tell.
+fn either(alloc: Global, bytes: &[u8]) -> Result<Program, FileFault>
+    requires { length bytes.now ≤ MAX_PROGRAM }
+    ensures { Gives FileFault.NoMemory (λ program. program) result (parse_of bytes.now) }
 {
     if has_tag(bytes) {
         parse_binary(alloc, bytes)

@@ -1,4 +1,4 @@
-use crate::{Refusal, base, rm3_cost};
+use crate::{Refusal, base, needed, rm3_cost};
 use pim_aig::{Aig, Lit, MAX_ANDS, MAX_OUTPUTS};
 use pim_isa::{Instr, MAX_CELLS, Operand, Ports, Program};
 use std::alloc::Global;
@@ -110,6 +110,7 @@ fn a_complemented_output(rt: HostRuntime) -> Result<(), Fail> {
     add_and(&mut aig, 7, 9)?;
     add_output(&mut aig, 11)?;
     assert_eq!(rt; rm3_cost(rt.alloc(), &aig)?, 11);
+    assert_eq!(rt; needed(rt.alloc(), &aig)?, 5);
     let program = scheduled(rt.alloc(), &aig, 5)??;
     assert_eq!(rt; program.cells(), 5);
     assert_eq!(rt; program.instrs().len(), 11);

@@ -14,4 +14,6 @@ mod memory;
 #[cfg(test)]
 mod outside;
 #[cfg(test)]
+mod programs;
+#[cfg(test)]
 mod run;

@@ -12,7 +12,7 @@ use Rattle.pim_text.specs.Fields.{is_space, fields, plain_number, lacks}
 use Rattle.pim_text.specs.InstrForms.{cells_of}
 use Rattle.pim_text.specs.Spelled.{AreSpelled}
 use Rattle.pim_text.specs.Text.{numbers_text}
-use Rattle.pim_text.proofs.NumberLemmas.{own, plain_number-decimal, word_is_decimal}
+use Rattle.pim_text.proofs.NumberLemmas.{own, word_is_decimal}
 
 found : (b : Bool) (n m : ℕ) → cond b (Some n) None ≡ Some m → (b ≡ true) × (n ≡ m)
 found true n m e = (refl, cc)

@@ -17,7 +17,7 @@ use Rattle.pim_isa.specs.declared.instr.Instr.{Instr}
 use Rattle.pim_isa.specs.declared.instr.Instr.TheVariants.{Init, Nor, Rm3}
 use Rattle.pim_text.specs.Fields.{lacks}
 use Rattle.pim_text.specs.Spelled.{AreSpelled, IsSpelledOperand, HasLine, HasPortLine}
-use Rattle.pim_text.specs.Text.{target_word, target_line, numbers_text, operand_text, nor_text, instr_text, port_line}
+use Rattle.pim_text.specs.Text.{target_line, numbers_text, operand_text, nor_text, instr_text, port_line}
 use Rattle.pim_text.proofs.FieldLemmas.{lacks-append, lacks-decimal}
 use Rattle.pim_text.proofs.LabelLemmas.{is_label-from_IsLabel}
 

@@ -1,7 +1,8 @@
 -- Laws of the lines of a program's text: a line is read as what it spells, and no other line is.
-use Rattle.std.specs.Prelude.{◌≡◌, ℕ, ◌+◌, ◌^◌, ◌<◌, Bool, true, ◌==◌, ◌&&◌, not, nat_lt, List, [], ◌∷◌, ◌++◌, length, codes, decimal, Option, Some}
+use Rattle.std.specs.Prelude.{◌≡◌, ℕ, ◌+◌, ◌^◌, ◌<◌, Bool, true, ◌==◌, ◌&&◌, not, nat_lt, List, [], ◌∷◌, ◌++◌, length, decimal, Option, Some}
 use Rattle.std.specs.List.{list_all, join_with_byte, AllByRecursion}
-use Rattle.pim_io.specs.Lines.{LineView, lines_after}
+use Rattle.pim_io.specs.Lines.{lines_after}
+use Rattle.pim_io.specs.Names.{IsLabel, is_label}
 use Rattle.pim_io.specs.Words.{number_of}
 use Rattle.pim_isa.specs.declared.target.Target.{Target}
 use Rattle.pim_isa.specs.declared.port.Port.{Port}
@@ -14,18 +15,20 @@ use Rattle.pim_text.specs.InstrForms.{instr_of_words, instr_of}
 use Rattle.pim_text.specs.Spelled.{HasLine, HasPortLine, HasLines}
 use Rattle.pim_text.specs.Text.{instr_text, instr_words, target_line, port_line}
 
--- Each line is read as what it spells.
+-- Each line is read as what it spells, and a label is found to be one.
 pub record ReadLines : Type 0 where
   pub target : (target : Target) → target_of (target_line target) ≡ Some target
   pub counted : (word : List ℕ) (n : ℕ) → n < 2 ^ 32 → counted_of word (word ++ decimal n) ≡ Some n
   pub port : (word : List ℕ) (port : Port) → HasPortLine port → port_of word (port_line word port) ≡ Some port
   pub instr : (i : Instr) → HasLine i → instr_of (instr_text i) ≡ Some i
+  pub label : (text : List ℕ) → IsLabel text → is_label text ≡ true
 
 -- No other line is.
 pub record OneLine : Type 0 where
   pub target : (line : List ℕ) (target : Target) → target_of line ≡ Some target → line ≡ target_line target
   pub counted : (word line : List ℕ) (n : ℕ) → counted_of word line ≡ Some n → (line ≡ word ++ decimal n) × (n < 2 ^ 32)
-  pub port : (word line : List ℕ) (port : Port) → port_of word line ≡ Some port → (line ≡ port_line word port) × HasPortLine port
+  pub port : (word line : List ℕ) (port : Port) → port_of word line ≡ Some port
+      → (line ≡ port_line word port) × HasPortLine port
   pub instr : (line : List ℕ) (i : Instr) → instr_of line ≡ Some i → (line ≡ instr_text i) × HasLine i
 
 -- A program has lines.
@@ -55,6 +58,7 @@ pub record IsPlainWord (word : List ℕ) : Type 0 where
 pub record InstrWords : Type 0 where
   pub joined : (i : Instr) → instr_text i ≡ join_with_byte 32 (instr_words i)
   pub plain : (i : Instr) → HasLine i → AllByRecursion IsPlainWord (instr_words i)
-  pub read : (cell : List ℕ → Option ℕ) (i : Instr) → ((n : ℕ) → n < 2 ^ 32 → cell (decimal n) ≡ Some n) → HasLine i → instr_of_words cell (instr_words i) ≡ Some i
+  pub read : (cell : List ℕ → Option ℕ) (i : Instr) → ((n : ℕ) → n < 2 ^ 32 → cell (decimal n) ≡ Some n) → HasLine i
+      → instr_of_words cell (instr_words i) ≡ Some i
   pub plain_number : (n : ℕ) → n < 2 ^ 32 → IsPlainWord (decimal n)
   pub number : (n : ℕ) → n < 2 ^ 32 → number_of (decimal n) ≡ Some n

@@ -66,7 +66,6 @@ impl<'a> Fields<'a> {
     {
         Fields { rest: Some(text) }
     }
-
 }
 
 impl<'a> WordWalk<'a> for Fields<'a> {
@@ -74,8 +73,7 @@ impl<'a> WordWalk<'a> for Fields<'a> {
 
     /// The next field, and `None` exactly at the end. Linear in its length.
     #[tactic(auto, using(crate::proofs::FieldLemmas::fields_cut_rest, crate::proofs::FieldLemmas::fields_last))]
-    fn word(&mut self) -> Option<&'a [u8]>
-    {
+    fn word(&mut self) -> Option<&'a [u8]> {
         let text = self.rest?;
         match first_space(text) {
             Some(space) => {

@@ -7,5 +7,4 @@ pub fn line_laws()
     ensures program { ProgramLines }
     ensures lack { LackNewlines }
     ensures words { InstrWords }
-{
-}
+{}

@@ -4,9 +4,9 @@ use Rattle.std.specs.Prelude.{OnOk}
 use Rattle.pim_io.specs.Outside.{Rose, Told}
 use Rattle.pim_words.specs.Reading.{command_said, is_usage}
 use Rattle.pim_words.specs.declared.command.Command.{Command}
-use Rattle.pim_words.specs.declared.command.Command.TheVariants.{Run}
+use Rattle.pim_words.specs.declared.command.Command.TheVariants.{Debug, Run}
 use Rattle.pim_top.specs.Calls.{Ends, FileIsFine, HasWritten, IsCalm, IsDecided, IsDone, IsFileDecided, IsIdle, IsObeyed, IsRefused, Obeys}
-use Rattle.pim_top.specs.Reads.{IsApart, OfBytes, Tells, executes_rows, reads, streams}
+use Rattle.pim_top.specs.Reads.{IsApart, OfBytes, OfInput, Tells, executes_rows, reads, streams}
 use Rattle.pim_top.specs.Statuses.{answer_status, refusal_status}
 use Rattle.pim_top.specs.Streams.{IsUntouched, Seen}
 use Rattle.pim_top.specs.commands.Run.{run_of}
@@ -15,6 +15,7 @@ use Rattle.pim_top.specs.declared.refusal.Refusal.{Refusal}
 use Rattle.pim_top.specs.declared.refusal.Refusal.TheVariants as refusal
 use Rattle.pim_top.specs.declared.status.Status.{Status}
 use Rattle.pim_top.specs.declared.status.Status.TheVariants as status
+use Rattle.pim_top.proofs.commands.debug.Ends.{debug-decided, debug-done, debug-file, debug-read, debug-steady, debug-usage, debug-write}
 use Rattle.pim_top.proofs.RowsEnds.{rows-decided, rows-done, rows-file, rows-memory, rows-read, rows-usage, rows-write}
 use Rattle.pim_top.proofs.StatusKinds.{refusal-done}
 use Rattle.pim_top.proofs.Told.{read-steady}
@@ -22,7 +23,7 @@ use Rattle.pim_top.proofs.Wholes.{whole-decided, whole-done, whole-file, whole-n
 
 -- ---- of one command
 abbrev Wrote : Command → Seen → Type 0
-Wrote c seen = OfBytes (reads c origin.Program) seen.program (λ file. OfBytes (reads c origin.Input) seen.input (λ input. Told seen.output.before seen.output.now (λ before after. HasWritten c file input before after)))
+Wrote c seen = OfBytes (reads c origin.Program) seen.program (λ file. OfInput c seen.input (λ input. Told seen.output.before seen.output.now (λ before after. HasWritten c file input before after)))
 
 -- no count rose
 abbrev Steady : Seen → Type 0
@@ -33,6 +34,10 @@ ends-done (Run fill) seen y h = (
   rows-done (run_of fill) seen y (HasWritten (Run fill)) (λ file input before after text e fits d. record { text = text; took = e; given = inr (fits, d) }) h,
   (h.loaded.read.steady, h.walk.input, h.walk.output),
 )
+ends-done (Debug fill) seen y h = (
+  debug-done fill seen y (HasWritten (Debug fill)) (λ file input before after text e fits d. record { text = text; took = e; given = inr (fits, d) }) h,
+  debug-steady fill seen y h,
+)
 ends-done c seen y h = (
   whole-done c seen (HasWritten c) (λ file input before after text e fits d. record { text = text; took = e; given = inr (fits, d) }) h,
   (read-steady (reads c origin.Program) seen.program h.file h.program_read, read-steady (reads c origin.Input) seen.input h.input h.input_read, h.took.steady),
@@ -40,18 +45,22 @@ ends-done c seen y h = (
 
 ends-usage : (c : Command) (seen : Seen) (r : Refusal) → Ends {Y = Unit {0}} c seen (Err r) → refusal_status r ≡ status.Usage → ⊥
 ends-usage (Run fill) seen r h e = rows-usage (run_of fill) seen r h e
+ends-usage (Debug fill) seen r h e = debug-usage fill seen r h e
 ends-usage c seen r h e = whole-usage c seen r h e
 
 ends-read : (c : Command) (seen : Seen) (r : Refusal) → Ends {Y = Unit {0}} c seen (Err r) → refusal_status r ≡ status.ReadFault → Rose seen.program.faults seen.program.faults_now ⊎ Rose seen.input.faults seen.input.faults_now
 ends-read (Run fill) seen r h e = rows-read (run_of fill) seen r h e
+ends-read (Debug fill) seen r h e = debug-read fill seen r h e
 ends-read c seen r h e = whole-read c seen r h e
 
 ends-write : (c : Command) (seen : Seen) (r : Refusal) → Ends {Y = Unit {0}} c seen (Err r) → refusal_status r ≡ status.WriteFault → Rose seen.output.faults seen.output.faults_now
 ends-write (Run fill) seen r h e = rows-write (run_of fill) seen r h e
+ends-write (Debug fill) seen r h e = debug-write fill seen r h e
 ends-write c seen r h e = whole-write c seen r h e
 
 ends-nothing : (c : Command) (seen : Seen) (r : Refusal) → streams c ≡ false → Ends {Y = Unit {0}} c seen (Err r) → (refusal_status r ≡ status.WriteFault → ⊥) → IsUntouched seen.output
 ends-nothing (Run fill) seen r not h n = absurd (let z : ⊥ = cc in z)
+ends-nothing (Debug fill) seen r not h n = absurd (let z : ⊥ = cc in z)
 ends-nothing c seen r not h n = whole-nothing c seen r h n
 
 ends-memory : (c : Command) (seen : Seen) (r : Refusal) → executes_rows c ≡ true → Ends {Y = Unit {0}} c seen (Err r) → refusal_status r ≡ status.NoMemory → IsUntouched seen.input × IsUntouched seen.output
@@ -69,6 +78,12 @@ ends-file (Run fill) seen file result t calm h = elim (rows-file (run_of fill) s
   | inr (inl (inr judged)) ↦ inr (inl (record { refusal = refusal.Judged judged.0; decided = (judged.1, judged.2); ends = judged.3 }))
   | inr (inr wanting) ↦ inr (inr wanting)
 ]
+ends-file (Debug fill) seen file result t calm h = elim (debug-file fill seen file result t calm h) [
+  | inl fine ↦ inl fine
+  | inr (inl (inl long)) ↦ inr (inl (record { refusal = refusal.TooLong origin.Program; decided = long.0; ends = long.1 }))
+  | inr (inl (inr judged)) ↦ inr (inl (record { refusal = refusal.Judged judged.0; decided = (judged.1, judged.2); ends = judged.3 }))
+  | inr (inr wanting) ↦ inr (inr wanting)
+]
 ends-file c seen file result t calm h = elim (whole-file c seen file result t calm h) [
   | inl fine ↦ inl fine
   | inr (inl decided) ↦ inr (inl (record { refusal = decided.0; decided = decided.1; ends = decided.2 }))
@@ -81,6 +96,12 @@ Say c file bytes s = IsDecided c file bytes s ⊎ (s ≡ status.NoMemory)
 
 ends-decided : (c : Command) (seen : Seen) (file bytes : List ℕ) (result : Result (Unit {0}) Refusal) → Tells (reads c origin.Program) seen.program file → Tells (reads c origin.Input) seen.input bytes → IsCalm seen → Ends c seen result → Say c file bytes (answer_status result)
 ends-decided (Run fill) seen file bytes result t u calm h = elim (rows-decided (run_of fill) seen file bytes result t u calm h) [
+  | inl (inl long) ↦ inl (record { answer = Err (refusal.TooLong origin.Program); decided = inl long.0; ends = long.1 })
+  | inl (inr judged) ↦ inl (record { answer = Err (refusal.Judged judged.0); decided = inl (judged.1, judged.2); ends = judged.3 })
+  | inr (inl late) ↦ inl (record { answer = late.0; decided = inr (late.1, late.2); ends = late.3 })
+  | inr (inr wanting) ↦ inr wanting
+]
+ends-decided (Debug fill) seen file bytes result t u calm h = elim (debug-decided fill seen file bytes result t u calm h) [
   | inl (inl long) ↦ inl (record { answer = Err (refusal.TooLong origin.Program); decided = inl long.0; ends = long.1 })
   | inl (inr judged) ↦ inl (record { answer = Err (refusal.Judged judged.0); decided = inl (judged.1, judged.2); ends = judged.3 })
   | inr (inl late) ↦ inl (record { answer = late.0; decided = inr (late.1, late.2); ends = late.3 })

@@ -2,6 +2,7 @@
 use Rattle.std.proofs.Common.{◌≡◌, ℕ, List, [], ◌∷◌, ◌++◌, Some, codes, refl}
 use Rattle.std.specs.Fmt.{digits}
 use Rattle.pim_aiger.specs.declared.fault.AigerFault.TheVariants as aiger
+use Rattle.pim_asm.specs.declared.fault.AsmFault.TheVariants as asm
 use Rattle.pim_batch.specs.Runners.{Runner}
 use Rattle.pim_blif.specs.declared.fault.BlifFault.TheVariants as blif
 use Rattle.pim_compile.specs.declared.refusal.Refusal.TheVariants as compiler
@@ -71,13 +72,13 @@ symbol_note : judged (judgement.Netlist (Aiger (aiger.Symbol 30))) ≡ codes "pi
 unfolding digits
 symbol_note = refl
 
-driven_note : judged (judgement.Netlist (Blif (blif.Net (net.Twice 1) (codes "a" ∷ codes "b" ∷ [])))) ≡ codes "pim: bad input: driven twice b\n"
+driven_note : judged (judgement.Netlist (Blif (blif.Net (net.Twice 1) (codes "b" ∷ [])))) ≡ codes "pim: bad input: driven twice b\n"
 driven_note = refl
 
 undriven_note : judged (judgement.Netlist (Aiger (aiger.Net (net.Undriven 0) (codes "v0" ∷ [])))) ≡ codes "pim: bad input: undriven v0\n"
 undriven_note = refl
 
-cycle_note : judged (judgement.Netlist (Blif (blif.Net (net.Cycle (1 ∷ 0 ∷ [])) (codes "a" ∷ codes "b" ∷ [])))) ≡ codes "pim: bad input: cycle b a\n"
+cycle_note : judged (judgement.Netlist (Blif (blif.Net (net.Cycle (1 ∷ 0 ∷ [])) (codes "b" ∷ codes "a" ∷ [])))) ≡ codes "pim: bad input: cycle b a\n"
 cycle_note = refl
 
 wanting_note : judged (judgement.Netlist (Blif (blif.Net net.NoMemory []))) ≡ codes "pim: no memory\n"
@@ -116,6 +117,22 @@ kind_note = refl
 init_note : judged (judgement.File (file.Invalid (invalid.InitList 4))) ≡ codes "pim: bad input: program instruction 4 init list\n"
 unfolding digits
 init_note = refl
+
+byte_note : judged (judgement.File (file.Byte 12)) ≡ codes "pim: bad input: program byte 12\n"
+unfolding digits
+byte_note = refl
+
+assembly_note : judged (judgement.Assembly (asm.Line 4)) ≡ codes "pim: bad input: assembly line 4\n"
+unfolding digits
+assembly_note = refl
+
+name_note : judged (judgement.Assembly (asm.Name 9)) ≡ codes "pim: bad input: assembly name in line 9\n"
+unfolding digits
+name_note = refl
+
+assembled_note : judged (judgement.Assembly (asm.Invalid (invalid.Port 1))) ≡ codes "pim: bad input: program port 1\n"
+unfolding digits
+assembled_note = refl
 
 vector_note : judged (judgement.Vector 2) ≡ codes "pim: bad input: vector line 2\n"
 unfolding digits

@@ -4,6 +4,7 @@ pub mod NextLine
 pub mod WalkStates
 pub mod WalkSteps
 pub mod Told
+pub mod ProgramFiles
 pub mod StatusKinds
 pub mod Wholes
 pub mod RowsEnds

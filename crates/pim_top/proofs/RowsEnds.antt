@@ -23,8 +23,9 @@ use Rattle.pim_top.specs.declared.status.Status.TheVariants as status
 use Rattle.pim_top.proofs.StatusKinds.{judgement-other}
 use Rattle.pim_top.proofs.Told.{of-bytes, over-told, same-bytes, told-map, told-of}
 
-abbrev Load : Type 0
-Load = List ℕ → Result Runner Judgement
+-- how the bytes of a program file are loaded
+abbrev pub Load : Type 0 → Type 0
+Load X = List ℕ → Result X Judgement
 
 -- ---- an input that is not refused is within the limit
 behind-none : (width n : ℕ) (behind : Option Refusal) (ls : List (List ℕ)) → first_refusal width n behind ls ≡ None → behind ≡ None
@@ -52,7 +53,7 @@ ran-refused : (runner : Runner) (bytes : List ℕ) (r : Refusal) → input_refus
 ran-refused runner bytes r e = sym (ap (ran runner bytes) e)
 
 -- ---- done
-pub rows-done : {Y : Type 0} (load : Load) (seen : Seen) (y : Y) (Q : List ℕ → List ℕ → List ℕ → List ℕ → Type 0) →
+pub rows-done : {Y : Type 0} (load : Load Runner) (seen : Seen) (y : Y) (Q : List ℕ → List ℕ → List ℕ → List ℕ → Type 0) →
     ((file input before after text : List ℕ) → after ≡ before ++ text → length file ≤ MAX_PROGRAM → RowsDecide load file input (Ok text) → Q file input before after) →
     RowsEnd load seen (Ok y) → OfBytes (Some MAX_PROGRAM) seen.program (λ file. OfBytes (Some MAX_INPUT) seen.input (λ input. Told seen.output.before seen.output.now (λ before after. Q file input before after)))
 rows-done load seen y Q make h =
@@ -71,7 +72,7 @@ rows-done load seen y Q make h =
     h.walk.ran)
 
 -- ---- the words and the outside
-early-usage : (load : Load) (s : Stream) (r : Refusal) → IsUnloaded load s r → refusal_status r ≡ status.Usage → ⊥
+pub early-usage : {X : Type 0} (load : Load X) (s : Stream) (r : Refusal) → IsUnloaded load s r → refusal_status r ≡ status.Usage → ⊥
 early-usage load s refusal.Usage h e = h
 early-usage load s refusal.NoMemory h e = cc
 early-usage load s (refusal.ReadFault o) h e = cc
@@ -87,10 +88,10 @@ late-usage runner i o (refusal.TooLong q) h e = cc
 late-usage runner i o refusal.WriteFault h e = cc
 late-usage runner i o (refusal.Judged j) h e = judgement-other j status.Usage e
 
-pub rows-usage : (load : Load) (seen : Seen) (r : Refusal) → RowsEnd {Y = Unit {0}} load seen (Err r) → refusal_status r ≡ status.Usage → ⊥
+pub rows-usage : (load : Load Runner) (seen : Seen) (r : Refusal) → RowsEnd {Y = Unit {0}} load seen (Err r) → refusal_status r ≡ status.Usage → ⊥
 rows-usage load seen r h e = elim h [ inl early ↦ early-usage load seen.program r early.why e | inr late ↦ late-usage late.runner seen.input seen.output r late.walk e ]
 
-early-read : (load : Load) (s : Stream) (r : Refusal) → IsUnloaded load s r → refusal_status r ≡ status.ReadFault → Rose s.faults s.faults_now
+pub early-read : {X : Type 0} (load : Load X) (s : Stream) (r : Refusal) → IsUnloaded load s r → refusal_status r ≡ status.ReadFault → Rose s.faults s.faults_now
 early-read load s refusal.Usage h e = absurd h
 early-read load s refusal.NoMemory h e = absurd (let z : ⊥ = cc in z)
 early-read load s (refusal.ReadFault origin.Program) h e = h.rose
@@ -108,10 +109,10 @@ late-read runner i o (refusal.TooLong q) h e = absurd (let z : ⊥ = cc in z)
 late-read runner i o refusal.WriteFault h e = absurd (let z : ⊥ = cc in z)
 late-read runner i o (refusal.Judged j) h e = absurd (judgement-other j status.ReadFault e)
 
-pub rows-read : (load : Load) (seen : Seen) (r : Refusal) → RowsEnd {Y = Unit {0}} load seen (Err r) → refusal_status r ≡ status.ReadFault → Rose seen.program.faults seen.program.faults_now ⊎ Rose seen.input.faults seen.input.faults_now
+pub rows-read : (load : Load Runner) (seen : Seen) (r : Refusal) → RowsEnd {Y = Unit {0}} load seen (Err r) → refusal_status r ≡ status.ReadFault → Rose seen.program.faults seen.program.faults_now ⊎ Rose seen.input.faults seen.input.faults_now
 rows-read load seen r h e = elim h [ inl early ↦ inl (early-read load seen.program r early.why e) | inr late ↦ inr (late-read late.runner seen.input seen.output r late.walk e) ]
 
-early-write : (load : Load) (s : Stream) (r : Refusal) → IsUnloaded load s r → refusal_status r ≡ status.WriteFault → ⊥
+pub early-write : {X : Type 0} (load : Load X) (s : Stream) (r : Refusal) → IsUnloaded load s r → refusal_status r ≡ status.WriteFault → ⊥
 early-write load s refusal.Usage h e = h
 early-write load s refusal.NoMemory h e = cc
 early-write load s (refusal.ReadFault o) h e = cc
@@ -127,7 +128,7 @@ late-write runner i o (refusal.TooLong q) h e = absurd (let z : ⊥ = cc in z)
 late-write runner i o refusal.WriteFault h e = h.output
 late-write runner i o (refusal.Judged j) h e = absurd (judgement-other j status.WriteFault e)
 
-pub rows-write : (load : Load) (seen : Seen) (r : Refusal) → RowsEnd {Y = Unit {0}} load seen (Err r) → refusal_status r ≡ status.WriteFault → Rose seen.output.faults seen.output.faults_now
+pub rows-write : (load : Load Runner) (seen : Seen) (r : Refusal) → RowsEnd {Y = Unit {0}} load seen (Err r) → refusal_status r ≡ status.WriteFault → Rose seen.output.faults seen.output.faults_now
 rows-write load seen r h e = elim h [ inl early ↦ absurd (early-write load seen.program r early.why e) | inr late ↦ late-write late.runner seen.input seen.output r late.walk e ]
 
 -- ---- out of memory comes before the input is read
@@ -137,31 +138,28 @@ late-memory runner i o refusal.NoMemory h e = h
 late-memory runner i o (refusal.ReadFault q) h e = cc
 late-memory runner i o (refusal.TooLong q) h e = cc
 late-memory runner i o refusal.WriteFault h e = cc
-late-memory runner i o (refusal.Judged (judgement.Netlist f)) h e = h
-late-memory runner i o (refusal.Judged (judgement.Compile f)) h e = h
-late-memory runner i o (refusal.Judged (judgement.File f)) h e = h
 late-memory runner i o (refusal.Judged (judgement.Vector n)) h e = cc
 late-memory runner i o (refusal.Judged judgement.TooManyLines) h e = cc
-late-memory runner i o (refusal.Judged judgement.NoMemory) h e = h
+late-memory runner i o r h e = h
 
-pub rows-memory : (load : Load) (seen : Seen) (r : Refusal) → RowsEnd {Y = Unit {0}} load seen (Err r) → refusal_status r ≡ status.NoMemory → IsUntouched seen.input × IsUntouched seen.output
+pub rows-memory : (load : Load Runner) (seen : Seen) (r : Refusal) → RowsEnd {Y = Unit {0}} load seen (Err r) → refusal_status r ≡ status.NoMemory → IsUntouched seen.input × IsUntouched seen.output
 rows-memory load seen r h e = elim h [ inl early ↦ (early.input, early.output) | inr late ↦ absurd (late-memory late.runner seen.input seen.output r late.walk e) ]
 
 -- ---- what the program file decides
 -- it has too many bytes, or is refused so
-abbrev pub FileRefusal : Load → List ℕ → Status → Type 0
+abbrev pub FileRefusal : {X : Type 0} → Load X → List ℕ → Status → Type 0
 FileRefusal load file s = ((MAX_PROGRAM < length file) × (s ≡ status.TooLarge)) ⊎ ((j : Judgement) × (length file ≤ MAX_PROGRAM) × (load file ≡ Err j) × (s ≡ judgement_status j))
 
 -- it is loaded, or it is refused so, or memory ran out
-abbrev pub FileRows : Load → List ℕ → Status → Type 0
-FileRows load file s = ((length file ≤ MAX_PROGRAM) × ((runner : Runner) × (load file ≡ Ok runner))) ⊎ (FileRefusal load file s ⊎ (s ≡ status.NoMemory))
+abbrev pub FileRows : {X : Type 0} → Load X → List ℕ → Status → Type 0
+FileRows {X = X} load file s = ((length file ≤ MAX_PROGRAM) × ((loaded : X) × (load file ≡ Ok loaded))) ⊎ (FileRefusal load file s ⊎ (s ≡ status.NoMemory))
 
-loaded-same : (load : Load) (s : Stream) (loaded : Result Runner Judgement) (file : List ℕ) → Tells (Some MAX_PROGRAM) s file → IsLoaded load s loaded → (length file ≤ MAX_PROGRAM) × (load file ≡ loaded)
+pub loaded-same : {X : Type 0} (load : Load X) (s : Stream) (loaded : Result X Judgement) (file : List ℕ) → Tells (Some MAX_PROGRAM) s file → IsLoaded load s loaded → (length file ≤ MAX_PROGRAM) × (load file ≡ loaded)
 loaded-same load s loaded file t h =
     let same = same-bytes (Some MAX_PROGRAM) s h.file file h.read t in
     (subst (λ (x : List ℕ). length x ≤ MAX_PROGRAM) same h.read.fits, ap load (sym same) ∙ h.is)
 
-early-file : (load : Load) (s : Stream) (file : List ℕ) (r : Refusal) → Tells (Some MAX_PROGRAM) s file → (Rose s.faults s.faults_now → ⊥) → IsUnloaded load s r → FileRefusal load file (refusal_status r) ⊎ (refusal_status r ≡ status.NoMemory)
+pub early-file : {X : Type 0} (load : Load X) (s : Stream) (file : List ℕ) (r : Refusal) → Tells (Some MAX_PROGRAM) s file → (Rose s.faults s.faults_now → ⊥) → IsUnloaded load s r → FileRefusal load file (refusal_status r) ⊎ (refusal_status r ≡ status.NoMemory)
 early-file load s file refusal.Usage t calm h = absurd h
 early-file load s file refusal.NoMemory t calm h = inr refl
 early-file load s file (refusal.ReadFault origin.Program) t calm h = absurd (calm h.rose)
@@ -174,7 +172,7 @@ early-file load s file (refusal.Judged j) t calm h = elim h [
   | inr loaded ↦ let w = loaded-same load s (Err j) file t loaded in inl (inr (j, w.0, w.1, refl))
 ]
 
-pub rows-file : {Y : Type 0} (load : Load) (seen : Seen) (file : List ℕ) (result : Result Y Refusal) → Tells (Some MAX_PROGRAM) seen.program file → (Rose seen.program.faults seen.program.faults_now → ⊥) → RowsEnd load seen result → FileRows load file (answer_status result)
+pub rows-file : {Y : Type 0} (load : Load Runner) (seen : Seen) (file : List ℕ) (result : Result Y Refusal) → Tells (Some MAX_PROGRAM) seen.program file → (Rose seen.program.faults seen.program.faults_now → ⊥) → RowsEnd load seen result → FileRows load file (answer_status result)
 rows-file load seen file (Ok y) t calm h = let w = loaded-same load seen.program (Ok h.runner) file t h.loaded in inl (w.0, (h.runner, w.1))
 rows-file load seen file (Err r) t calm h = elim h [
   | inl early ↦ inr (early-file load seen.program file r t calm early.why)
@@ -183,16 +181,16 @@ rows-file load seen file (Err r) t calm h = elim h [
 
 -- ---- what all bytes decide
 -- the file is refused, or the lines decide, or memory ran out
-abbrev pub AllRows : Load → List ℕ → List ℕ → Status → Type 0
+abbrev pub AllRows : Load Runner → List ℕ → List ℕ → Status → Type 0
 AllRows load file input s = FileRefusal load file s ⊎ (((answer : Result (List ℕ) Refusal) × (length file ≤ MAX_PROGRAM) × RowsDecide load file input answer × (s ≡ answer_status answer)) ⊎ (s ≡ status.NoMemory))
 
-stopped-decided : (load : Load) (seen : Seen) (file input : List ℕ) (runner : Runner) (r : Refusal) → length file ≤ MAX_PROGRAM → load file ≡ Ok runner → Tells (Some MAX_INPUT) seen.input input → IsStopped runner seen.input seen.output r →
+stopped-decided : (load : Load Runner) (seen : Seen) (file input : List ℕ) (runner : Runner) (r : Refusal) → length file ≤ MAX_PROGRAM → load file ≡ Ok runner → Tells (Some MAX_INPUT) seen.input input → IsStopped runner seen.input seen.output r →
     (answer : Result (List ℕ) Refusal) × (length file ≤ MAX_PROGRAM) × RowsDecide load file input answer × (refusal_status r ≡ answer_status answer)
 stopped-decided load seen file input runner r fits loaded u h =
     let w = told-of seen.input.before seen.input.now input (λ bytes rest. RanTo runner bytes seen.output.before seen.output.now r) u h.ran in
     (Err r, fits, record { runner = runner; loaded = loaded; is = ran-refused runner input r w.1.refused }, refl)
 
-late-decided : {Y : Type 0} (load : Load) (seen : Seen) (file input : List ℕ) (runner : Runner) (result : Result Y Refusal) → length file ≤ MAX_PROGRAM → load file ≡ Ok runner → Tells (Some MAX_INPUT) seen.input input → IsCalm seen → WalkEnds runner seen.input seen.output result →
+late-decided : {Y : Type 0} (load : Load Runner) (seen : Seen) (file input : List ℕ) (runner : Runner) (result : Result Y Refusal) → length file ≤ MAX_PROGRAM → load file ≡ Ok runner → Tells (Some MAX_INPUT) seen.input input → IsCalm seen → WalkEnds runner seen.input seen.output result →
     (answer : Result (List ℕ) Refusal) × (length file ≤ MAX_PROGRAM) × RowsDecide load file input answer × (answer_status result ≡ answer_status answer)
 late-decided load seen file input runner (Ok y) fits loaded u calm h =
     let w = told-of seen.input.before seen.input.now input (λ bytes rest. RanWhole runner bytes rest seen.output.before seen.output.now) u h.ran in
@@ -204,14 +202,11 @@ late-decided load seen file input runner (Err (refusal.ReadFault origin.Input)) 
 late-decided load seen file input runner (Err (refusal.TooLong origin.Program)) fits loaded u calm h = absurd h
 late-decided load seen file input runner (Err (refusal.TooLong origin.Input)) fits loaded u calm h = stopped-decided load seen file input runner (refusal.TooLong origin.Input) fits loaded u h
 late-decided load seen file input runner (Err refusal.WriteFault) fits loaded u calm h = absurd (calm.output h.output)
-late-decided load seen file input runner (Err (refusal.Judged (judgement.Netlist f))) fits loaded u calm h = absurd h
-late-decided load seen file input runner (Err (refusal.Judged (judgement.Compile f))) fits loaded u calm h = absurd h
-late-decided load seen file input runner (Err (refusal.Judged (judgement.File f))) fits loaded u calm h = absurd h
 late-decided load seen file input runner (Err (refusal.Judged (judgement.Vector n))) fits loaded u calm h = stopped-decided load seen file input runner (refusal.Judged (judgement.Vector n)) fits loaded u h
 late-decided load seen file input runner (Err (refusal.Judged judgement.TooManyLines)) fits loaded u calm h = stopped-decided load seen file input runner (refusal.Judged judgement.TooManyLines) fits loaded u h
-late-decided load seen file input runner (Err (refusal.Judged judgement.NoMemory)) fits loaded u calm h = absurd h
+late-decided load seen file input runner (Err (refusal.Judged j)) fits loaded u calm h = absurd h
 
-pub rows-decided : {Y : Type 0} (load : Load) (seen : Seen) (file input : List ℕ) (result : Result Y Refusal) → Tells (Some MAX_PROGRAM) seen.program file → Tells (Some MAX_INPUT) seen.input input → IsCalm seen → RowsEnd load seen result → AllRows load file input (answer_status result)
+pub rows-decided : {Y : Type 0} (load : Load Runner) (seen : Seen) (file input : List ℕ) (result : Result Y Refusal) → Tells (Some MAX_PROGRAM) seen.program file → Tells (Some MAX_INPUT) seen.input input → IsCalm seen → RowsEnd load seen result → AllRows load file input (answer_status result)
 rows-decided load seen file input (Ok y) t u calm h =
     let w = loaded-same load seen.program (Ok h.runner) file t h.loaded in
     inr (inl (late-decided load seen file input h.runner (Ok y) w.0 w.1 u calm h.walk))

@@ -2,6 +2,8 @@
 use Rattle.std.proofs.Common.{◌≡◌, subst}
 use Rattle.pim_aiger.specs.declared.fault.AigerFault.{AigerFault}
 use Rattle.pim_aiger.specs.declared.fault.AigerFault.TheVariants as aiger
+use Rattle.pim_asm.specs.declared.fault.AsmFault.{AsmFault}
+use Rattle.pim_asm.specs.declared.fault.AsmFault.TheVariants as asm
 use Rattle.pim_blif.specs.declared.fault.BlifFault.{BlifFault}
 use Rattle.pim_blif.specs.declared.fault.BlifFault.TheVariants as blif
 use Rattle.pim_compile.specs.declared.refusal.Refusal.{Refusal as Compiler}
@@ -10,7 +12,7 @@ use Rattle.pim_file.specs.declared.fault.FileFault.{FileFault}
 use Rattle.pim_file.specs.declared.fault.FileFault.TheVariants as file
 use Rattle.pim_net.specs.declared.fault.NetFault.{NetFault}
 use Rattle.pim_net.specs.declared.fault.NetFault.TheVariants as net
-use Rattle.pim_top.specs.Statuses.{aiger_status, blif_status, compiler_status, file_status, judgement_status, net_status, netlist_status, refusal_status}
+use Rattle.pim_top.specs.Statuses.{aiger_status, asm_status, blif_status, compiler_status, file_status, judgement_status, net_status, netlist_status, refusal_status}
 use Rattle.pim_top.specs.declared.judgement.Judgement.{Judgement}
 use Rattle.pim_top.specs.declared.judgement.Judgement.TheVariants as judgement
 use Rattle.pim_top.specs.declared.netlist.NetlistFault.{NetlistFault}
@@ -57,10 +59,15 @@ file-kind file.TooLarge = tt
 file-kind file.NoMemory = tt
 file-kind f = tt
 
+asm-kind : (f : AsmFault) → IsOfBytes (asm_status f)
+asm-kind asm.NoMemory = tt
+asm-kind f = tt
+
 pub judgement-kind : (j : Judgement) → IsOfBytes (judgement_status j)
 judgement-kind (judgement.Netlist f) = netlist-kind f
 judgement-kind (judgement.Compile r) = compiler-kind r
 judgement-kind (judgement.File f) = file-kind f
+judgement-kind (judgement.Assembly f) = asm-kind f
 judgement-kind (judgement.Vector n) = tt
 judgement-kind judgement.TooManyLines = tt
 judgement-kind judgement.NoMemory = tt

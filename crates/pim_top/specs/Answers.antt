@@ -2,34 +2,47 @@
 use Rattle.std.specs.Prelude.{◌≡◌, ℕ, List, Result, Ok, Err}
 use Rattle.pim_batch.specs.Runners.{Runner}
 use Rattle.pim_words.specs.declared.command.Command.{Command}
-use Rattle.pim_words.specs.declared.command.Command.TheVariants.{Compile, Run}
-use Rattle.pim_top.specs.Statuses.{judgement_status}
+use Rattle.pim_isa.specs.Programs.{ProgramView}
+use Rattle.pim_words.specs.declared.command.Command.TheVariants as commands
+use Rattle.pim_top.specs.Programs.{IsProgramFile, program_of}
+use Rattle.pim_top.specs.commands.Asm.{AssemblesFine, asm_of}
 use Rattle.pim_top.specs.commands.Compile.{CompileAnswers, CompilesFine}
+use Rattle.pim_top.specs.commands.Convert.{convert_of}
+use Rattle.pim_top.specs.commands.Debug.{DebugsFine}
+use Rattle.pim_top.specs.commands.Explain.{explain_of}
+use Rattle.pim_top.specs.commands.List.{list_of}
 use Rattle.pim_top.specs.commands.Run.{RunsFine, run_of}
 use Rattle.pim_top.specs.declared.judgement.Judgement.{Judgement}
-use Rattle.pim_top.specs.declared.status.Status.TheVariants.{NoMemory}
 
 -- the text that a command writes whole for the bytes of its program file and of its input, or why they are refused; a source
 -- that it doesn't read counts as empty, and a command that streams writes nothing whole
 abbrev pub Answers : Command → List ℕ → List ℕ → Result (List ℕ) Judgement → Type 0
-Answers (Compile target level cells) file input answer = CompileAnswers target level cells input answer
-Answers (Run fill) file input answer = ⊥
+Answers (commands.Compile target level cells) file input answer = CompileAnswers target level cells input answer
+Answers (commands.Run fill) file input answer = ⊥
+Answers commands.List file input answer = answer ≡ list_of file
+Answers commands.Explain file input answer = answer ≡ explain_of file
+Answers commands.Asm file input answer = answer ≡ asm_of input
+Answers (commands.Debug fill) file input answer = ⊥
+Answers (commands.Convert form) file input answer = answer ≡ convert_of form input
 
 -- the program file is refused so, whatever the input is
 abbrev pub FileRefused : Command → List ℕ → Judgement → Type 0
-FileRefused (Run fill) file j = run_of fill file ≡ Err j
+FileRefused (commands.Run fill) file j = run_of fill file ≡ Err j
+FileRefused (commands.Debug fill) file j = program_of file ≡ Err j
 FileRefused command file j = (input : List ℕ) → Answers command file input (Err j)
 
 -- the program file of a command that reads the input too is not refused by itself
 abbrev pub FilePasses : Command → List ℕ → Type 0
-FilePasses (Run fill) file = (runner : Runner) × (run_of fill file ≡ Ok runner)
+FilePasses (commands.Run fill) file = (runner : Runner) × (run_of fill file ≡ Ok runner)
+FilePasses (commands.Debug fill) file = (program : ProgramView) × (program_of file ≡ Ok program)
 FilePasses command file = Unit {0}
 
 -- the command takes these bytes: they are within the limits, have no fault, and its options are enough for them
 abbrev pub IsFine : Command → List ℕ → List ℕ → Type 0
-IsFine (Compile target level cells) file input = CompilesFine target level cells input
-IsFine (Run fill) file input = RunsFine file input
-
--- a judgement that memory ran out, which says nothing of the bytes
-abbrev pub IsWanting : Judgement → Type 0
-IsWanting j = judgement_status j ≡ NoMemory
+IsFine (commands.Compile target level cells) file input = CompilesFine target level cells input
+IsFine (commands.Run fill) file input = RunsFine file input
+IsFine commands.List file input = IsProgramFile file
+IsFine commands.Explain file input = IsProgramFile file
+IsFine commands.Asm file input = AssemblesFine input
+IsFine (commands.Debug fill) file input = DebugsFine fill file input
+IsFine (commands.Convert form) file input = IsProgramFile input

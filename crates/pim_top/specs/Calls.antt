@@ -3,17 +3,18 @@ use Rattle.std.specs.Prelude.{◌≡◌, ◌⊎◌, ℕ, true, false, List, ◌+
 use Rattle.pim_io.specs.Outside.{Rose, Told, TookAll, TookFirst}
 use Rattle.pim_words.specs.Reading.{command_said, is_usage}
 use Rattle.pim_words.specs.declared.command.Command.{Command}
-use Rattle.pim_words.specs.declared.command.Command.TheVariants.{Run}
+use Rattle.pim_words.specs.declared.command.Command.TheVariants.{Debug, Run}
 use Rattle.pim_top.specs.Answers.{FilePasses}
 use Rattle.pim_top.specs.Decides.{Decides, FileDecides}
 use Rattle.pim_top.specs.Notes.{note}
-use Rattle.pim_top.specs.Reads.{IsApart, IsWithin, OfBytes, reads}
+use Rattle.pim_top.specs.Reads.{IsApart, IsWithin, OfBytes, OfInput, reads}
 use Rattle.pim_top.specs.Rows.{RowsEnd}
 use Rattle.pim_top.specs.Statuses.{answer_status, refusal_status}
 use Rattle.pim_top.specs.Streams.{IsUntouched, Seen, Stream}
 use Rattle.pim_top.specs.Wholes.{WholeEnds}
+use Rattle.pim_top.specs.commands.Debug.{DebugEnds}
 use Rattle.pim_top.specs.commands.Run.{run_of}
-use Rattle.pim_top.specs.declared.refusal.Origin.TheVariants.{Input, Program}
+use Rattle.pim_top.specs.declared.refusal.Origin.TheVariants.{Program}
 use Rattle.pim_top.specs.declared.refusal.Refusal.{Refusal}
 use Rattle.pim_top.specs.declared.refusal.Refusal.TheVariants as refusal
 use Rattle.pim_top.specs.declared.status.Status.{Status}
@@ -21,6 +22,7 @@ use Rattle.pim_top.specs.declared.status.Status.{Status}
 -- how a command ends
 abbrev pub Ends : {Y : Type 0} → Command → Seen → Result Y Refusal → Type 0
 Ends (Run fill) seen result = RowsEnd (run_of fill) seen result
+Ends (Debug fill) seen result = DebugEnds fill seen result
 Ends command seen result = WholeEnds command seen result
 
 -- nothing was read or written
@@ -70,12 +72,12 @@ pub record HasWritten (command : Command) (file input before after : List ℕ) :
   pub took : after ≡ before ++ text
   pub given : Decides command file input (Ok text)
 
--- the words say a command, whose sources were read to their end, and the output took what it writes for them, where they tell
--- their bytes; no count of their faults rose
+-- the words say a command, whose sources were read to their end, unless it may end before that; the output took what it writes
+-- for them, where they tell their bytes; no count of their faults rose
 pub record IsDone (words : List (List ℕ)) (seen : Seen) : Type 0 where
   pub command : Command
   pub said : command_said words ≡ Some command
-  pub wrote : OfBytes (reads command Program) seen.program (λ file. OfBytes (reads command Input) seen.input (λ input.
+  pub wrote : OfBytes (reads command Program) seen.program (λ file. OfInput command seen.input (λ input.
       Told seen.output.before seen.output.now (λ before after. HasWritten command file input before after)))
   pub program : seen.program.faults_now ≡ seen.program.faults
   pub input : seen.input.faults_now ≡ seen.input.faults

@@ -1,4 +1,5 @@
 pub mod Netlists
+pub mod Programs
 pub mod Statuses
 pub mod Notes
 pub mod Streams

@@ -2,6 +2,8 @@
 use Rattle.std.specs.Prelude.{ℕ, List, [], ◌∷◌, ◌++◌, Result, Ok, Err, codes, decimal}
 use Rattle.pim_aiger.specs.declared.fault.AigerFault.{AigerFault}
 use Rattle.pim_aiger.specs.declared.fault.AigerFault.TheVariants as aiger
+use Rattle.pim_asm.specs.declared.fault.AsmFault.{AsmFault}
+use Rattle.pim_asm.specs.declared.fault.AsmFault.TheVariants as asm
 use Rattle.pim_blif.specs.declared.fault.BlifFault.{BlifFault}
 use Rattle.pim_blif.specs.declared.fault.BlifFault.TheVariants as blif
 use Rattle.pim_compile.specs.declared.refusal.Refusal.{Refusal as Compiler}
@@ -108,15 +110,24 @@ invalid_text (invalid.Port k) = bad (codes "program port " ++ decimal k)
 abbrev pub file_text : FileFault → List ℕ
 file_text (file.Line n) = bad (codes "program line " ++ decimal n)
 file_text (file.Invalid fault) = invalid_text fault
+file_text (file.Byte place) = bad (codes "program byte " ++ decimal place)
 file_text file.Truncated = bad (codes "program truncated")
 file_text file.TooLarge = large (codes "cells")
 file_text file.NoMemory = wanting
+
+-- why bytes are no assembly
+abbrev pub asm_text : AsmFault → List ℕ
+asm_text (asm.Line n) = bad (codes "assembly line " ++ decimal n)
+asm_text (asm.Name n) = bad (codes "assembly name in line " ++ decimal n)
+asm_text (asm.Invalid fault) = invalid_text fault
+asm_text asm.NoMemory = wanting
 
 -- why bytes are refused
 abbrev pub judgement_text : Judgement → List ℕ
 judgement_text (judgement.Netlist fault) = netlist_text fault
 judgement_text (judgement.Compile refusal) = compiler_text refusal
 judgement_text (judgement.File fault) = file_text fault
+judgement_text (judgement.Assembly fault) = asm_text fault
 judgement_text (judgement.Vector n) = bad (codes "vector line " ++ decimal n)
 judgement_text judgement.TooManyLines = large (codes "rows")
 judgement_text judgement.NoMemory = wanting

@@ -2,7 +2,7 @@
 use Rattle.std.specs.Prelude.{◌≡◌, ◌≤◌, ◌<◌, ℕ, Bool, true, false, List, [], Option, None, Some, length}
 use Rattle.pim_io.specs.Outside.{Told}
 use Rattle.pim_words.specs.declared.command.Command.{Command}
-use Rattle.pim_words.specs.declared.command.Command.TheVariants.{Compile, Run}
+use Rattle.pim_words.specs.declared.command.Command.TheVariants.{Asm, Compile, Convert, Debug, Explain, List as Listed, Run}
 use Rattle.pim_top.specs.Streams.{IsRead, IsUntouched, Seen, Stream}
 use Rattle.pim_io.specs.declared.limits.TheConstants.{MAX_INPUT, MAX_PROGRAM}
 use Rattle.pim_top.specs.declared.refusal.Origin.{Origin}
@@ -14,10 +14,21 @@ reads (Compile target level cells) Program = None
 reads (Compile target level cells) Input = Some MAX_INPUT
 reads (Run fill) Program = Some MAX_PROGRAM
 reads (Run fill) Input = Some MAX_INPUT
+reads Listed Program = Some MAX_PROGRAM
+reads Listed Input = None
+reads Explain Program = Some MAX_PROGRAM
+reads Explain Input = None
+reads Asm Program = None
+reads Asm Input = Some MAX_INPUT
+reads (Debug fill) Program = Some MAX_PROGRAM
+reads (Debug fill) Input = Some MAX_INPUT
+reads (Convert form) Program = None
+reads (Convert form) Input = Some MAX_PROGRAM
 
 -- the command writes to the output while it reads the input
 abbrev pub streams : Command → Bool
 streams (Run fill) = true
+streams (Debug fill) = true
 streams command = false
 
 -- the command executes rows, all of whose memory it takes before it reads the first of them
@@ -63,3 +74,8 @@ Tells (Some limit) s bytes = s.before ≡ Some bytes
 abbrev pub OfBytes : Option ℕ → Stream → (List ℕ → Type 0) → Type 0
 OfBytes None s P = P []
 OfBytes (Some limit) s P = Told s.before s.now (λ bytes rest. (rest ≡ []) × (length bytes ≤ limit) × P bytes)
+
+-- the same of the input; a command that may end before its input says it of all bytes of it, read or not
+abbrev pub OfInput : Command → Stream → (List ℕ → Type 0) → Type 0
+OfInput (Debug fill) s P = Told s.before s.now (λ bytes rest. P bytes)
+OfInput command s P = OfBytes (reads command Input) s P

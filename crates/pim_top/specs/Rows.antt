@@ -1,7 +1,7 @@
 -- How a command ends that executes each line of its input as a row.
 use Rattle.std.specs.Prelude.{◌≡◌, ◌⊎◌, ℕ, List, Result, Ok, Err}
 use Rattle.pim_batch.specs.Runners.{Runner}
-use Rattle.pim_top.specs.Answers.{IsWanting}
+use Rattle.pim_top.specs.Statuses.{IsWanting}
 use Rattle.pim_top.specs.Streams.{HasFailed, IsOverrun, IsRead, IsUntouched, Seen, Stream}
 use Rattle.pim_top.specs.Walks.{WalkEnds}
 use Rattle.pim_top.specs.declared.judgement.Judgement.{Judgement}
@@ -11,13 +11,13 @@ use Rattle.pim_top.specs.declared.refusal.Refusal.{Refusal}
 use Rattle.pim_top.specs.declared.refusal.Refusal.TheVariants.{Judged, NoMemory, ReadFault, TooLong}
 
 -- the program file was read to its end, and this is what it gives
-pub record IsLoaded (load : List ℕ → Result Runner Judgement) (s : Stream) (loaded : Result Runner Judgement) : Type 0 where
+pub record IsLoaded {X : Type 0} (load : List ℕ → Result X Judgement) (s : Stream) (loaded : Result X Judgement) : Type 0 where
   pub file : List ℕ
   pub read : IsRead s MAX_PROGRAM file
   pub is : load file ≡ loaded
 
 -- why no row was executed: of the program's source and of its bytes
-abbrev pub IsUnloaded : (List ℕ → Result Runner Judgement) → Stream → Refusal → Type 0
+abbrev pub IsUnloaded : {X : Type 0} → (List ℕ → Result X Judgement) → Stream → Refusal → Type 0
 IsUnloaded load s NoMemory = Unit {0}
 IsUnloaded load s (ReadFault Program) = HasFailed s MAX_PROGRAM
 IsUnloaded load s (TooLong Program) = IsOverrun s MAX_PROGRAM
@@ -25,7 +25,7 @@ IsUnloaded load s (Judged j) = IsWanting j ⊎ IsLoaded load s (Err j)
 IsUnloaded load s r = ⊥
 
 -- no byte of the input was taken, and nothing was written
-pub record EndsEarly (load : List ℕ → Result Runner Judgement) (seen : Seen) (r : Refusal) : Type 0 where
+pub record EndsEarly {X : Type 0} (load : List ℕ → Result X Judgement) (seen : Seen) (r : Refusal) : Type 0 where
   pub input : IsUntouched seen.input
   pub output : IsUntouched seen.output
   pub why : IsUnloaded load seen.program r

@@ -1,7 +1,9 @@
 -- Statuses, and what ends with each of them.
-use Rattle.std.specs.Prelude.{ℕ, Result, Ok, Err}
+use Rattle.std.specs.Prelude.{◌≡◌, ℕ, Result, Ok, Err}
 use Rattle.pim_aiger.specs.declared.fault.AigerFault.{AigerFault}
 use Rattle.pim_aiger.specs.declared.fault.AigerFault.TheVariants as aiger
+use Rattle.pim_asm.specs.declared.fault.AsmFault.{AsmFault}
+use Rattle.pim_asm.specs.declared.fault.AsmFault.TheVariants as asm
 use Rattle.pim_blif.specs.declared.fault.BlifFault.{BlifFault}
 use Rattle.pim_blif.specs.declared.fault.BlifFault.TheVariants as blif
 use Rattle.pim_compile.specs.declared.refusal.Refusal.{Refusal as Compiler}
@@ -66,14 +68,24 @@ file_status file.TooLarge = status.TooLarge
 file_status file.NoMemory = status.NoMemory
 file_status fault = status.BadInput
 
+-- a fault of assembly is a bad input
+abbrev pub asm_status : AsmFault → Status
+asm_status asm.NoMemory = status.NoMemory
+asm_status fault = status.BadInput
+
 -- the status of a judgement
 abbrev pub judgement_status : Judgement → Status
 judgement_status (judgement.Netlist fault) = netlist_status fault
 judgement_status (judgement.Compile refusal) = compiler_status refusal
 judgement_status (judgement.File fault) = file_status fault
+judgement_status (judgement.Assembly fault) = asm_status fault
 judgement_status (judgement.Vector n) = status.BadInput
 judgement_status judgement.TooManyLines = status.TooLarge
 judgement_status judgement.NoMemory = status.NoMemory
+
+-- a judgement that memory ran out, which says nothing of the bytes
+abbrev pub IsWanting : Judgement → Type 0
+IsWanting j = judgement_status j ≡ status.NoMemory
 
 -- the status of a refusal
 abbrev pub refusal_status : Refusal → Status

@@ -1,7 +1,8 @@
 -- How a command ends that writes its text whole.
 use Rattle.std.specs.Prelude.{◌⊎◌, ℕ, List, Result, Ok, Err}
 use Rattle.pim_words.specs.declared.command.Command.{Command}
-use Rattle.pim_top.specs.Answers.{Answers, FilePasses, FileRefused, IsWanting}
+use Rattle.pim_top.specs.Statuses.{IsWanting}
+use Rattle.pim_top.specs.Answers.{Answers, FilePasses, FileRefused}
 use Rattle.pim_top.specs.Reads.{IsReadBy, OfLimit, reads}
 use Rattle.pim_top.specs.Streams.{HasFailed, IsCut, IsOverrun, IsUntouched, IsWritten, Seen, Stream}
 use Rattle.pim_top.specs.declared.judgement.Judgement.{Judgement}

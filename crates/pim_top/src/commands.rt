@@ -1,3 +1,8 @@
 //! The commands, one file each.
+pub mod asm;
 pub mod compile;
+pub mod convert;
+pub mod debug;
+pub mod explain;
+pub mod list;
 pub mod run;

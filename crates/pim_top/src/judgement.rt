@@ -1,11 +1,12 @@
 //! Why bytes are refused, by what they say alone.
 ghost use Rattle.std.specs.Prelude.{◌≡◌};
-ghost use Rattle.pim_top.specs.Statuses.{aiger_status, blif_status, compiler_status, file_status, judgement_status, net_status, netlist_status};
+ghost use Rattle.pim_top.specs.Statuses.{aiger_status, asm_status, blif_status, compiler_status, file_status, judgement_status, net_status, netlist_status};
 ghost use Rattle.pim_top.specs.declared.judgement.Judgement.TheVariants as judgements;
 
 use crate::Status;
 use crate::netlist::NetlistFault;
 use pim_aiger::AigerFault;
+use pim_asm::AsmFault;
 use pim_blif::BlifFault;
 use pim_file::FileFault;
 use pim_io::NoMemory;
@@ -20,6 +21,8 @@ pub enum Judgement {
     Compile(pim_compile::Refusal),
     /// The bytes are no program file.
     File(FileFault),
+    /// The bytes are no assembly.
+    Assembly(AsmFault),
     /// The line of this number, from 1, is no vector of the program's inputs.
     Vector(u32),
     /// There are more lines of vectors than are read.
@@ -45,6 +48,7 @@ impl Judgement {
             Judgement::Netlist(fault) => netlist_status(fault),
             Judgement::Compile(refusal) => compiler_status(*refusal),
             Judgement::File(fault) => file_status(*fault),
+            Judgement::Assembly(fault) => asm_status(*fault),
             Judgement::Vector(_) => Status::BadInput,
             Judgement::TooManyLines => Status::TooLarge,
             Judgement::NoMemory => Status::NoMemory,
@@ -114,6 +118,16 @@ fn file_status(fault: FileFault) -> Status
     match fault {
         FileFault::TooLarge => Status::TooLarge,
         FileFault::NoMemory => Status::NoMemory,
+        _ => Status::BadInput,
+    }
+}
+
+/// The status of a fault of assembly.
+fn asm_status(fault: AsmFault) -> Status
+    ensures { result ≡ asm_status fault }
+{
+    match fault {
+        AsmFault::NoMemory => Status::NoMemory,
         _ => Status::BadInput,
     }
 }

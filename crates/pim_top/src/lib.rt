@@ -7,6 +7,7 @@ mod commands;
 mod judgement;
 mod netlist;
 mod note;
+mod program;
 mod reading;
 mod refusal;
 mod status;

@@ -2,7 +2,7 @@
 ghost use Rattle.std.specs.Prelude.{◌≡◌, ◌++◌, OnOk, decimal};
 ghost use Rattle.pim_io.specs.Outside.{Wrote};
 ghost use Rattle.pim_top.specs.Calls.{IsNoted};
-ghost use Rattle.pim_top.specs.Notes.{aiger_text, bad, blif_line, blif_text, compiler_text, file_text, instruction_text, invalid_text, judgement_text, kind_word, large, net_text, note, origin_word, refusal_text, spaced};
+ghost use Rattle.pim_top.specs.Notes.{aiger_text, asm_text, bad, blif_line, blif_text, compiler_text, file_text, instruction_text, invalid_text, judgement_text, kind_word, large, net_text, note, origin_word, refusal_text, spaced};
 ghost use Rattle.pim_top.specs.Streams.{stream};
 ghost use Rattle.pim_top.specs.inner.Writing.{WroteLine};
 
@@ -11,6 +11,7 @@ use crate::netlist::NetlistFault;
 use crate::refusal::{Origin, Refusal};
 use itoa::Buffer;
 use pim_aiger::AigerFault;
+use pim_asm::AsmFault;
 use pim_blif::BlifFault;
 use pim_file::FileFault;
 use pim_io::{Sink, SinkFault, tell_writes, write_all, write_pieces};
@@ -51,6 +52,7 @@ fn write_judgement<E: Sink>(notes: &mut E, judgement: &Judgement) -> Result<(), 
         Judgement::Netlist(NetlistFault::Blif(fault)) => write_blif(notes, fault),
         Judgement::Compile(refusal) => write_compiler(notes, *refusal),
         Judgement::File(fault) => write_file(notes, *fault),
+        Judgement::Assembly(fault) => write_assembly(notes, *fault),
         Judgement::Vector(line) => write_bad_number(notes, b"vector line ", *line),
         Judgement::TooManyLines => write_large(notes, b"rows"),
         Judgement::NoMemory => write_text(notes, b"no memory"),
@@ -150,9 +152,22 @@ fn write_file<E: Sink>(notes: &mut E, fault: FileFault) -> Result<(), SinkFault>
     match fault {
         FileFault::Line(line) => write_bad_number(notes, b"program line ", line),
         FileFault::Invalid(fault) => write_invalid(notes, fault),
+        FileFault::Byte(place) => write_bad_number(notes, b"program byte ", place),
         FileFault::Truncated => write_bad(notes, b"program truncated"),
         FileFault::TooLarge => write_large(notes, b"cells"),
         FileFault::NoMemory => write_text(notes, b"no memory"),
+    }
+}
+
+/// Writes the fault of assembly with its line, or that of its program.
+fn write_assembly<E: Sink>(notes: &mut E, fault: AsmFault) -> Result<(), SinkFault>
+    ensures { WroteLine E.taken E.faults notes.old notes.new (asm_text fault) result }
+{
+    match fault {
+        AsmFault::Line(line) => write_bad_number(notes, b"assembly line ", line),
+        AsmFault::Name(line) => write_bad_number(notes, b"assembly name in line ", line),
+        AsmFault::Invalid(fault) => write_invalid(notes, fault),
+        AsmFault::NoMemory => write_text(notes, b"no memory"),
     }
 }
 

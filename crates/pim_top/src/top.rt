@@ -14,7 +14,12 @@ ghost use Rattle.pim_top.specs.Streams.{IsUntouched, seen, stream};
 ghost use Rattle.pim_top.specs.inner.Faultless.{IsComplete};
 
 use crate::Status;
+use crate::commands::asm::Asm;
 use crate::commands::compile::Compile;
+use crate::commands::convert::Convert;
+use crate::commands::debug::debug;
+use crate::commands::explain::Explain;
+use crate::commands::list;
 use crate::commands::run::run;
 use crate::note::tell;
 use crate::refusal::{Origin, Refusal};
@@ -157,6 +162,11 @@ fn execute<P: Source, S: Source, K: Sink>(
             write_text(alloc, &compile, program, input, output)
         }
         Command::Run { fill } => run(alloc, fill, program, input, output),
+        Command::List => write_text(alloc, &list::List, program, input, output),
+        Command::Explain => write_text(alloc, &Explain, program, input, output),
+        Command::Asm => write_text(alloc, &Asm, program, input, output),
+        Command::Debug { fill } => debug(alloc, fill, program, input, output),
+        Command::Convert { form } => write_text(alloc, &Convert { form }, program, input, output),
     }
 }
 

@@ -2,7 +2,8 @@
 //! writes the text.
 ghost use Rattle.std.specs.Prelude.{◌≡◌, ◌⊎◌, ℕ, List, IfErr, IfOk};
 ghost use Rattle.pim_words.specs.declared.command.Command.{Command};
-ghost use Rattle.pim_top.specs.Answers.{Answers, FilePasses, FileRefused, IsFine, IsWanting};
+ghost use Rattle.pim_top.specs.Statuses.{IsWanting};
+ghost use Rattle.pim_top.specs.Answers.{Answers, FilePasses, FileRefused, IsFine};
 ghost use Rattle.pim_top.specs.Reads.{IsApart, IsWithin, reads};
 ghost use Rattle.pim_top.specs.Streams.{seen, stream};
 ghost use Rattle.pim_top.specs.Wholes.{WholeEnds};

@@ -2,6 +2,8 @@
 use Rattle.std.specs.Prelude.{◌≡◌, ◌⊎◌, ℕ, ◌+◌, ◌-◌, ◌<◌, ◌≤◌, length, map, min, Option, Some, None, IsSomeAnd, Result, Ok, Err}
 use Rattle.pim_aig.specs.Graph.{AigView}
 use Rattle.pim_aig.specs.Values.{aval}
+use Rattle.pim_aig.specs.declared.fault.FlatFault.{FlatFault}
+use Rattle.pim_aig.specs.declared.fault.FlatFault.TheVariants as flat
 use Rattle.pim_isa.specs.PortLists.{labels_of}
 use Rattle.pim_isa.specs.Primed.{IsPrimed}
 use Rattle.pim_isa.specs.Programs.{PortsView, ProgramView}
@@ -23,6 +25,11 @@ use Rattle.pim_compile.specs.declared.compiling.Level.{Level}
 use Rattle.pim_compile.specs.declared.compiling.Level.TheVariants.{Zero}
 use Rattle.pim_compile.specs.declared.refusal.Refusal.{Refusal as Refused}
 use Rattle.pim_compile.specs.declared.refusal.Refusal.TheVariants as refused
+
+-- the refusal of a netlist that can't be flattened
+abbrev pub refusal_of : FlatFault → Refused
+refusal_of flat.TooLarge = refused.TooLarge
+refusal_of flat.NoMemory = refused.NoMemory
 
 -- the program computes a graph for a target within the budget, for ports with these labels
 pub record IsProgramOf (g : AigView) (ports : PortsView) (target : Target) (budget : ℕ) (p : ProgramView) : Type 0 where

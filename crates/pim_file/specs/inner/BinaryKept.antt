@@ -9,7 +9,7 @@ use Rattle.pim_file.specs.declared.fault.FileFault.{FileFault}
 use Rattle.pim_file.specs.declared.fault.FileFault.TheVariants as faults
 use Rattle.pim_file.specs.Reading.{begun}
 use Rattle.pim_file.specs.ProgramFile.{validated}
-use Rattle.pim_file.specs.Items.{Cursor, number_at, many, counted}
+use Rattle.pim_file.specs.Items.{Cursor, number_at, counted}
 use Rattle.pim_file.specs.BinaryReading.{target_at, port_at, instr_at, closed_at}
 use Rattle.pim_file.specs.inner.Kept.{within_limit}
 

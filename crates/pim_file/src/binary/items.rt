@@ -9,7 +9,6 @@ ghost use Rattle.pim_file.specs.BinaryReading.{target_at, port_at};
 ghost use Rattle.pim_text.specs.PortLines.{port_view};
 
 use crate::fault::FileFault;
-
 use pim_io::{Code, MAX_NAME, get_code};
 use pim_isa::Target;
 use pim_text::PortLine;
@@ -111,7 +110,11 @@ impl<'a> Items<'a> {
             Code::Got { value, next } => {
                 let shortest = is_shortest(self.rest, next);
                 self.skip(next);
-                if shortest { Ok(value) } else { Err(self.wrong()) }
+                if shortest {
+                    Ok(value)
+                } else {
+                    Err(self.wrong())
+                }
             }
             Code::Long => Err(FileFault::Byte(self.place + 4)),
             Code::Short => Err(FileFault::Truncated),

@@ -19,7 +19,7 @@ pub(crate) fn has_tag(bytes: &[u8]) -> bool
     bytes.starts_with(b"pim2\n")
 }
 
-/// The program that bytes are the binary form of.
+/// The program that bytes are the binary form of, or the first fault. Linear in the bytes.
 pub(crate) fn parse_binary(alloc: Global, bytes: &[u8]) -> Result<Program, FileFault>
     requires tag { IsTrue (is_binary bytes.now) }
     requires long { 5 ≤ length bytes.now }

@@ -5,6 +5,7 @@ ghost use Rattle.pim_file.specs.declared.fault.FileFault.TheVariants as faults;
 ghost use Rattle.pim_file.specs.Binary.{target_byte, each_bin, counted_bin, numbers_bin, port_bin, operand_number, nor_bin, instr_bin, bin};
 ghost use Rattle.pim_file.specs.BinaryReading.{parse_of};
 ghost use Rattle.pim_file.specs.BinarySpelled.{HasBytes};
+ghost use Rattle.pim_isa.specs.Sound.{IsProgram};
 ghost use Rattle.pim_isa.specs.declared.draft.TheConstants.{MAX_PORTS, MAX_INSTRS};
 
 use pim_io::{NoMemory, put_code};
@@ -130,6 +131,15 @@ pub fn print_binary(alloc: Global, program: &Program) -> Result<Vec<u8>, NoMemor
     // The form is read as the program again, and a front of it as cut off.
     ensures again { IfOk result (λ bytes. parse_of bytes.items ≡ Ok program.now) }
     ensures cut { IfOk result (λ bytes. (k : ℕ) → k < length bytes.items → parse_of (take k bytes.items) ≡ Err faults.Truncated) }
+{
+    let bytes = form(alloc, program)?;
+    Ok(bytes)
+}
+
+/// The bytes of a program, one part after another.
+fn form(alloc: Global, program: &Program) -> Result<Vec<u8>, NoMemory>
+    ensures binary { IfOk result (λ bytes. bytes.items ≡ bin program.now) }
+    ensures valid { IfOk result (λ _. IsProgram program.now) }
 {
     let mut bytes = Vec::new(alloc);
     bytes.extend_from_slice(b"pim2\n")?;

@@ -1,10 +1,10 @@
 -- Inner: what bytes that a command takes come to.
 use Rattle.std.specs.Prelude.{◌≡◌, ◌⊎◌, ℕ, List, Result, Err}
 use Rattle.pim_words.specs.declared.command.Command.{Command}
-use Rattle.pim_top.specs.Answers.{Answers, FileRefused, IsFine, IsWanting}
+use Rattle.pim_top.specs.Answers.{Answers, FileRefused, IsFine}
 use Rattle.pim_top.specs.Calls.{IsCalm}
 use Rattle.pim_top.specs.Reads.{IsWithin, Tells, reads}
-use Rattle.pim_top.specs.Statuses.{answer_status}
+use Rattle.pim_top.specs.Statuses.{IsWanting, answer_status}
 use Rattle.pim_top.specs.Streams.{Seen}
 use Rattle.pim_top.specs.declared.judgement.Judgement.{Judgement}
 use Rattle.pim_top.specs.declared.refusal.Origin.TheVariants.{Input, Program}

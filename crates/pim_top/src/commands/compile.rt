@@ -2,7 +2,7 @@
 ghost use Rattle.std.specs.Prelude.{◌≡◌, ◌⊎◌, ◌≤◌, length, IfErr, IfOk};
 ghost use Rattle.pim_isa.specs.declared.draft.TheConstants.{MAX_CELLS};
 ghost use Rattle.pim_words.specs.declared.command.Command.TheVariants as commands;
-ghost use Rattle.pim_top.specs.Answers.{IsWanting};
+ghost use Rattle.pim_top.specs.Statuses.{IsWanting};
 ghost use Rattle.pim_top.specs.commands.Compile.{CompileAnswers, level_of, machine_of};
 
 use crate::judgement::Judgement;

@@ -2,19 +2,17 @@
 ghost use Rattle.std.specs.Prelude.{◌≡◌, Ok, IfErr, IfOk};
 ghost use Rattle.pim_words.specs.declared.command.Command.TheVariants as commands;
 ghost use Rattle.pim_words.specs.declared.command.FillWord.{FillWord};
-ghost use Rattle.pim_top.specs.Rows.{IsUnloaded, RowsEnd};
-ghost use Rattle.pim_top.specs.Streams.{Stream, seen, stream};
-ghost use Rattle.pim_top.specs.commands.Run.{IsProgramRead, fill_of, run_of};
+ghost use Rattle.pim_top.specs.Rows.{RowsEnd};
+ghost use Rattle.pim_top.specs.Streams.{seen, stream};
+ghost use Rattle.pim_top.specs.commands.Run.{fill_of, run_of};
 ghost use Rattle.pim_top.specs.inner.Faultless.{IsComplete};
 
-use crate::judgement::Judgement;
-use crate::reading::bytes_of;
-use crate::refusal::{Origin, Refusal};
+use crate::program::load_program;
+use crate::refusal::Refusal;
 use crate::walk::walk;
 use pim_batch::Batch;
-use pim_file::parse;
-use pim_io::{MAX_PROGRAM, Sink, Source};
-use pim_isa::{Fill, Program};
+use pim_io::{Sink, Source};
+use pim_isa::Fill;
 use pim_vectors::Lines;
 use pim_words::FillWord;
 use std::alloc::Global;
@@ -48,23 +46,11 @@ fn execute_rows<P: Source, S: Source, K: Sink>(
     ensures { RowsEnd (run_of fill) (seen (stream P.left P.faults program.old program.new)
         (stream S.left S.faults input.old input.new) (stream K.taken K.faults output.old output.new)) result }
 {
-    let program = program_of(alloc, program)?;
+    let program = load_program(alloc, program)?;
     let mut batch = Batch::new(alloc, &program, fill_of(fill))?;
     let width = program.inputs().len() as u32;
     let mut lines = Lines::new(alloc, width)?;
     walk(&mut batch, width, &mut lines, input, output)
-}
-
-/// The program that a source has.
-fn program_of<P: Source>(alloc: Global, source: &mut P) -> Result<Program, Refusal>
-    ensures read { IfOk result (IsProgramRead (stream P.left P.faults source.old source.new)) }
-    ensures refused { IfErr result (λ r. (fill : FillWord) → IsUnloaded (run_of fill) (stream P.left P.faults source.old source.new) r) }
-{
-    let bytes = bytes_of(alloc, source, Origin::Program, Some(MAX_PROGRAM))?;
-    match parse(alloc, bytes.as_slice()) {
-        Ok(program) => Ok(program),
-        Err(fault) => Err(Refusal::Judged(Judgement::File(fault))),
-    }
 }
 
 /// The filling that a word of `--fill` names.

@@ -1,5 +1,5 @@
 use Rattle.std.proofs.Common.{◌≡◌, ◌+◌, ◌<◌, ℕ, List, true, ◌∷◌, ap, sym, ◌∙◌, ◌++◌, [], length, option_map, arith}
-use Rattle.pim_asm.specs.Labels.{is_clear, unescaped, Between, Escape}
+use Rattle.pim_asm.specs.Labels.{is_clear, unescaped, Between}
 use Rattle.pim_asm.proofs.LabelLemmas.{clear_more, escape_more}
 use Rattle.pim_asm.proofs.labels.unescape.Goals as goal
 

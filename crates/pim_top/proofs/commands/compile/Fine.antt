@@ -35,10 +35,7 @@ uncompiled target level budget bytes compiler.NoMemory fine h = refl
 judged : (target : TargetWord) (level : LevelWord) (budget : ℕ) (bytes : List ℕ) (j : Judgement) → CompilesFine target level budget bytes → CompileAnswers target level budget bytes (Err j) → IsFineStatus (judgement_status j)
 judged target level budget bytes (judgement.Netlist fault) fine h = absurd (let a = fine.is_net in let z : ⊥ = cc in z)
 judged target level budget bytes (judgement.Compile r) fine h = uncompiled target level budget bytes r fine h
-judged target level budget bytes (judgement.File f) fine h = absurd h
-judged target level budget bytes (judgement.Vector n) fine h = absurd h
-judged target level budget bytes judgement.TooManyLines fine h = absurd h
-judged target level budget bytes judgement.NoMemory fine h = absurd h
+judged target level budget bytes j fine h = absurd h
 
 pub compile-fine : (target : TargetWord) (level : LevelWord) (budget : ℕ) (file bytes : List ℕ) → CompilesFine target level budget bytes → IsFaultless (commands.Compile target level budget) file bytes
 compile-fine target level budget file bytes fine = record {

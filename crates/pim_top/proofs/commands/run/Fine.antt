@@ -6,6 +6,8 @@ use Rattle.std.proofs.lemmas.Bool.Decides.{nat_tests}
 use Rattle.std.proofs.lemmas.List.Elements.{All-head, All-tail}
 use Rattle.pim_batch.specs.Runners.{Runner}
 use Rattle.pim_batch.specs.Tables.{runner_of}
+use Rattle.pim_file.specs.declared.fault.FileFault.{FileFault}
+use Rattle.pim_isa.specs.Programs.{ProgramView}
 use Rattle.pim_io.specs.declared.limits.TheConstants.{MAX_INPUT}
 use Rattle.pim_vectors.specs.Lines.{lines}
 use Rattle.pim_vectors.specs.Tiles.{IsVector}
@@ -14,9 +16,10 @@ use Rattle.pim_words.specs.declared.command.Command.TheVariants as commands
 use Rattle.pim_words.specs.declared.command.FillWord.{FillWord}
 use Rattle.pim_top.specs.Decides.{RowsDecide}
 use Rattle.pim_top.specs.Judged.{first_refusal, input_refusal, is_vector, judged_lines, settled}
-use Rattle.pim_top.specs.Rows.{RowsEnd}
+use Rattle.pim_top.specs.Programs.{judged_as, program_of}
+use Rattle.pim_top.specs.Rows.{IsUnloaded, RowsEnd}
 use Rattle.pim_top.specs.Statuses.{answer_status}
-use Rattle.pim_top.specs.Streams.{Seen}
+use Rattle.pim_top.specs.Streams.{Seen, Stream}
 use Rattle.pim_top.specs.Walks.{ran}
 use Rattle.pim_top.specs.commands.Run.{RunsFine, fill_of, run_by, run_of}
 use Rattle.pim_top.specs.declared.judgement.Judgement.{Judgement}
@@ -55,7 +58,7 @@ ok_of r = Ok r
 
 rows-fine : (fill : FillWord) (file bytes : List ℕ) (answer : Result (List ℕ) Refusal) → RunsFine file bytes → RowsDecide (run_of fill) file bytes answer → answer_status answer ≡ status.Done
 rows-fine fill file bytes answer fine h =
-    let loaded : run_of fill file ≡ Ok (runner_of fine.program (fill_of fill)) = ap (run_by fill) fine.is_program in
+    let loaded : run_of fill file ≡ Ok (runner_of fine.program (fill_of fill)) = ap (λ (r : Result ProgramView FileFault). run_by fill (judged_as (λ f. judgement.File f) r)) fine.is_program in
     let same : h.runner ≡ runner_of fine.program (fill_of fill) = same-ok h.runner (runner_of fine.program (fill_of fill)) (sym h.loaded ∙ loaded) in
     let none : input_refusal h.runner.width bytes ≡ None = subst (λ (r : Runner). input_refusal r.width bytes ≡ None) (sym same) (fine-input (length fine.program.inputs) bytes fine.fits fine.few fine.vectors) in
     ap answer_status (h.is ∙ ap (ran h.runner bytes) none)
@@ -72,8 +75,22 @@ pub run-complete : {Y : Type 0} (fill : FillWord) (seen : Seen) (result : Result
 run-complete fill seen result h = record {
   ends = λ file input t u calm fine. elim (rows-decided (run_of fill) seen file input result t u calm h) [
     | inl (inl long) ↦ absurd (let z : ⊥ = omega (arith, fine.file_fits, long.0) in z)
-    | inl (inr judged) ↦ absurd (let a : run_of fill file ≡ Ok (runner_of fine.program (fill_of fill)) = ap (run_by fill) fine.is_program in let b = judged.2 in let z : ⊥ = cc in z)
+    | inl (inr judged) ↦ absurd (let a : run_of fill file ≡ Ok (runner_of fine.program (fill_of fill)) = ap (λ (r : Result ProgramView FileFault). run_by fill (judged_as (λ f. judgement.File f) r)) fine.is_program in let b = judged.2 in let z : ⊥ = cc in z)
     | inr (inl late) ↦ inl (late.3 ∙ rows-fine fill file input late.0 fine late.2)
     | inr (inr wanting) ↦ inr wanting
   ];
 }
+
+-- a program file of which no program was made gives no runner
+pub unloaded-run : (fill : FillWord) (s : Stream) (r : Refusal) → IsUnloaded program_of s r → IsUnloaded (run_of fill) s r
+unloaded-run fill s refusal.Usage h = h
+unloaded-run fill s refusal.NoMemory h = h
+unloaded-run fill s (refusal.ReadFault origin.Program) h = h
+unloaded-run fill s (refusal.ReadFault origin.Input) h = h
+unloaded-run fill s (refusal.TooLong origin.Program) h = h
+unloaded-run fill s (refusal.TooLong origin.Input) h = h
+unloaded-run fill s refusal.WriteFault h = h
+unloaded-run fill s (refusal.Judged j) h = elim h [
+  | inl wanting ↦ inl wanting
+  | inr loaded ↦ inr (record { file = loaded.file; read = loaded.read; is = ap (run_by fill) loaded.is })
+]

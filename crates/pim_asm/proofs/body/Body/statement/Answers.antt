@@ -1,8 +1,8 @@
-use Rattle.std.proofs.Common.{◌≡◌, ℕ, List, Option, Some, None, Result, Err, inr, ap, sym, ◌∙◌, true, cond, option_map}
+use Rattle.std.proofs.Common.{◌≡◌, ℕ, List, Some, None, Result, Err, inr, ap, sym, ◌∙◌, cond, option_map}
 use Rattle.pim_asm.specs.declared.fault.AsmFault.{AsmFault}
-use Rattle.pim_asm.specs.Assembly.{Body, done, missed}
+use Rattle.pim_asm.specs.Assembly.{Body, done}
 use Rattle.pim_asm.specs.Names.{known_cell}
-use Rattle.pim_asm.specs.Statements.{Statement, statement_of}
+use Rattle.pim_asm.specs.Statements.{statement_of}
 use Rattle.pim_asm.specs.Words.{words}
 use Rattle.pim_asm.specs.inner.StatementViews.{statement_view}
 use Rattle.pim_asm.proofs.BodyLemmas.{missed_is, done_is}

@@ -1,5 +1,4 @@
-use Rattle.std.proofs.Common.{ap, ◌∙◌, ℕ, List, option_map}
-use Rattle.std.specs.Borrow.{Bor}
+use Rattle.std.proofs.Common.{ap, ◌∙◌, ℕ, List}
 use Rattle.pim_asm.specs.Names.{cell_named}
 use Rattle.pim_asm.proofs.NameLemmas.{cell_found}
 use Rattle.pim_asm.proofs.names.Names.cell.Goals as goal

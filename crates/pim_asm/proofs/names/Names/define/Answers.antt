@@ -1,5 +1,4 @@
-use Rattle.std.proofs.Common.{◌≡◌, ap, sym, ◌∙◌, ℕ, List, ◌∷◌, [], ◌++◌, Option, Some, None, Bool, true, false, cond, refl}
-use Rattle.std.specs.Borrow.{Bor}
+use Rattle.std.proofs.Common.{◌≡◌, ap, sym, ◌∙◌, ℕ, List, ◌∷◌, [], ◌++◌, Option, Some, None, false, refl}
 use Rattle.std.specs.Option.{is_some}
 use Rattle.pim_asm.specs.Names.{cell_named}
 use Rattle.pim_asm.specs.inner.Defined.{defined}

@@ -1,4 +1,4 @@
-use Rattle.std.proofs.Common.{◌∙◌, eqb, sym, ap, rules, arith}
+use Rattle.std.proofs.Common.{◌∙◌, arith}
 use Rattle.std.proofs.lemmas.Bool.{eq-eqb, ne_eqb}
 use Rattle.pim_file.proofs.CodeLemmas.{shortest_code}
 use Rattle.pim_file.proofs.binary.items.is_shortest.Goals as goal

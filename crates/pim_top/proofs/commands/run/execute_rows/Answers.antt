@@ -1,5 +1,6 @@
 use Rattle.std.proofs.Common.{inl, refl}
 use Rattle.std.proofs.lemmas.Result.{err_from_is_err_and}
+use Rattle.pim_top.proofs.commands.run.Fine.{unloaded-run}
 use Rattle.pim_top.proofs.commands.run.execute_rows.Goals as goal
 
 pub returns-in_err-program : goal.returns-in_err-program
@@ -9,5 +10,5 @@ returns-in_err-program g c =
     (inl (record {
       input = record { same = refl; steady = refl };
       output = record { same = refl; steady = refl };
-      why = c.in_err-program.ensures.refused c.args.fill;
+      why = unloaded-run c.args.fill _ _ c.in_err-program.ensures.refused;
     }))

@@ -1,0 +1,52 @@
+use crate::{Level, Refusal, compile, need};
+use pim_isa::Target;
+use pim_net::{Bit3, Cover, Draft, Net, OutRef};
+use std::alloc::Global;
+use std::test::Fail;
+
+/// The exclusive or of two inputs, as a cover of two rows.
+fn exclusive_or(alloc: Global) -> Result<Net, Fail> {
+    let mut cover = Cover::new(alloc, &[0, 1], true)?;
+    cover.add_row(&[Bit3::One, Bit3::Zero])?;
+    cover.add_row(&[Bit3::Zero, Bit3::One])?;
+    let mut draft = Draft::new(alloc);
+    draft.add_input(0, b"a")?;
+    draft.add_input(1, b"b")?;
+    draft.add_cover(2, cover)?;
+    draft.add_output(OutRef { sig: 2, neg: false }, b"f")?;
+    Ok(Net::check(alloc, draft)?)
+}
+
+/// Three NORs are held at once, or two ANDs and the one that reads them: five cells for either machine.
+#[test]
+fn what_an_exclusive_or_needs(rt: HostRuntime) -> Result<(), Fail> {
+    let net = exclusive_or(rt.alloc())?;
+    assert_eq!(rt; need(rt.alloc(), &net, Target::Magic)?, 5);
+    assert_eq!(rt; need(rt.alloc(), &net, Target::Plim)?, 5);
+    Ok(())
+}
+
+/// To PLiM: three ANDs of three cycles each, and a complement of two. Four cells are one too few.
+#[test]
+fn an_exclusive_or_to_plim(rt: HostRuntime) -> Result<(), Fail> {
+    let net = exclusive_or(rt.alloc())?;
+    let program = compile(rt.alloc(), &net, Target::Plim, Level::Zero, 5)?;
+    assert_eq!(rt; program.target(), Target::Plim);
+    assert_eq!(rt; program.cells(), 5);
+    assert_eq!(rt; program.instrs().len(), 11);
+    let refusal = compile(rt.alloc(), &net, Target::Plim, Level::Zero, 4).err();
+    assert_eq!(rt; refusal, Some(Refusal::TooFewCells { needed: 5 }));
+    Ok(())
+}
+
+/// To MAGIC: with a cell for each of the six gates one Init and six NORs.
+#[test]
+fn an_exclusive_or_to_magic(rt: HostRuntime) -> Result<(), Fail> {
+    let net = exclusive_or(rt.alloc())?;
+    let program = compile(rt.alloc(), &net, Target::Magic, Level::Zero, 8)?;
+    assert_eq!(rt; program.target(), Target::Magic);
+    assert_eq!(rt; program.instrs().len(), 7);
+    let refusal = compile(rt.alloc(), &net, Target::Magic, Level::Zero, 4).err();
+    assert_eq!(rt; refusal, Some(Refusal::TooFewCells { needed: 5 }));
+    Ok(())
+}

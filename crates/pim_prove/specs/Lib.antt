@@ -1,0 +1,5 @@
+pub mod Clean
+pub mod Steady
+pub mod Vectors
+pub mod Proving
+pub mod inner
