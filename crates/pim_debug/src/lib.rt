@@ -9,6 +9,8 @@ mod reply;
 mod session;
 mod stop;
 mod stops;
+#[cfg(test)]
+mod tests;
 
 pub use bits::Bits;
 pub use fault::DebugFault;

@@ -58,7 +58,7 @@ lt_is : (n : ℕ) → nat_lt 0 n ≡ true → 0 < n
 lt_is n h = grind (arith, nat_tests)
 
 -- a gate stands at most once in the front of an order
-once_at_most : (xs : List ℕ) → Once xs → (p c : ℕ) → p ≤ length xs → occurrences (take p xs) c ≤ 1
+pub once_at_most : (xs : List ℕ) → Once xs → (p c : ℕ) → p ≤ length xs → occurrences (take p xs) c ≤ 1
 once_at_most xs once zero c h = omega arith
 once_at_most xs once (suc p) c h =
     let x = get_or xs p 0 in

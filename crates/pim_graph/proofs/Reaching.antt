@@ -15,7 +15,7 @@ use Rattle.pim_graph.proofs.UsageSteps.{All-falling}
 use Rattle.pim_graph.proofs.Orderings.{has-append_left, has-get_or, has-fold_falling, order_visits, order-IsPlaced}
 
 -- where something holds of each gate of a list, it holds of each one that the list has
-All-has : (P : ℕ → Type 0) (xs : List ℕ) → All P xs → (c : ℕ) → has xs c ≡ true → P c
+pub All-has : (P : ℕ → Type 0) (xs : List ℕ) → All P xs → (c : ℕ) → has xs c ≡ true → P c
 All-has P [] h c e = absurd (false≢true e)
 All-has P (x ∷ xs) h c e =
     elim (or_cases (eqb x c) (has xs c) e) [
@@ -58,16 +58,16 @@ place_of (y ∷ ys) x h =
       | inr rest ↦ let (p, at) = place_of ys x rest in (suc p, record { within = omega (arith, at.within); is = at.is })
     ]
 
-has-take : (xs : List ℕ) (p x : ℕ) → has (take p xs) x ≡ true → has xs x ≡ true
+pub has-take : (xs : List ℕ) (p x : ℕ) → has (take p xs) x ≡ true → has xs x ≡ true
 has-take xs p x h = ap (λ (ys : List ℕ). has ys x) (sym (take-append-drop p xs)) ∙ has-append_left (take p xs) (drop p xs) x h
 
-has-earlier : (xs : List ℕ) (p r : ℕ) → r < p → p ≤ length xs → has (take p xs) (get_or xs r 0) ≡ true
+pub has-earlier : (xs : List ℕ) (p r : ℕ) → r < p → p ≤ length xs → has (take p xs) (get_or xs r 0) ≡ true
 has-earlier xs p r l h =
     let P : ℕ → Type 0 = λ y. has (take p xs) y ≡ true in
     let within : r < length (take p xs) = omega (arith, length-take p xs) in
     subst P (get_or-take p xs r 0 l) (has-get_or (take p xs) r 0 within)
 
-has-later : (xs : List ℕ) (p q : ℕ) → p ≤ q → q < length xs → has (drop p xs) (get_or xs q 0) ≡ true
+pub has-later : (xs : List ℕ) (p q : ℕ) → p ≤ q → q < length xs → has (drop p xs) (get_or xs q 0) ≡ true
 has-later xs p q l h =
     let P : ℕ → Type 0 = λ k. has (drop p xs) (get_or xs k 0) ≡ true in
     let Q : ℕ → Type 0 = λ y. has (drop p xs) y ≡ true in
@@ -84,7 +84,7 @@ order_complete g sound x (as_child {reader} r h) =
     let before : has (take q (order g)) x ≡ true = All-has (λ c. has (take q (order g)) c ≡ true) (kids_of g (get_or (order g) q 0)) ((order-IsPlaced g sound).after q at.within) x (subst P (sym at.is) h) in
     has-take (order g) q x before
 
-read_by-has : (g : GraphView) (readers : List ℕ) (reader x : ℕ) → has readers reader ≡ true → has (kids_of g reader) x ≡ true → read_by g readers x ≡ true
+pub read_by-has : (g : GraphView) (readers : List ℕ) (reader x : ℕ) → has readers reader ≡ true → has (kids_of g reader) x ≡ true → read_by g readers x ≡ true
 read_by-has g [] reader x h k = absurd (false≢true h)
 read_by-has g (y ∷ ys) reader x h k =
     elim (or_cases (eqb y reader) (has ys reader) h) [
@@ -95,7 +95,7 @@ read_by-has g (y ∷ ys) reader x h k =
     ]
 
 -- a reader of a gate stands behind it
-reader_behind : (g : GraphView) (xs : List ℕ) → IsPlaced g xs → (p q : ℕ) → p < length xs → q < length xs → has (kids_of g (get_or xs q 0)) (get_or xs p 0) ≡ true → p < q
+pub reader_behind : (g : GraphView) (xs : List ℕ) → IsPlaced g xs → (p q : ℕ) → p < length xs → q < length xs → has (kids_of g (get_or xs q 0)) (get_or xs p 0) ≡ true → p < q
 reader_behind g xs placed p q lp lq h =
     let before = All-has (λ c. has (take q xs) c ≡ true) (kids_of g (get_or xs q 0)) (placed.after q lq) (get_or xs p 0) h in
     let (r, at) = place_of (take q xs) (get_or xs p 0) before in

@@ -4,4 +4,5 @@ pub mod Graphs
 pub mod Orders
 pub mod Peaks
 pub mod Readers
+pub mod Trees
 pub mod Usages

@@ -11,6 +11,7 @@ mod readers;
 mod spares;
 #[cfg(test)]
 mod tests;
+mod trees;
 mod usages;
 mod walk;
 
@@ -19,4 +20,5 @@ pub use graph::Graph;
 pub use ordering::order;
 pub use peaks::peak;
 pub use readers::Readers;
+pub use trees::tree;
 pub use usages::usage;

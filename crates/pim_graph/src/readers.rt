@@ -72,7 +72,7 @@ impl Readers {
 }
 
 /// Counts the reads of one more gate.
-fn count_reads(counts: &mut Vec<u32>, children: &[u32])
+pub(crate) fn count_reads(counts: &mut Vec<u32>, children: &[u32])
     requires there { All (λ c. c < vec_len counts.old) children.now }
     requires few { length children.now ≤ 4 }
     requires room { All (λ n. n + 4 < 2 ^ 32) counts.old.items }

@@ -1,4 +1,4 @@
-use crate::{Graph, Readers, allot, order, peak, usage};
+use crate::{Graph, Readers, allot, order, peak, tree, usage};
 use std::test::Fail;
 
 /// Gate 2 reads gates 0 and 1, gate 3 reads gates 1 and 2, so gate 2 with its greater usage is visited first. Root 4 is
@@ -61,5 +61,35 @@ fn cells_for_gates(rt: HostRuntime) -> Result<(), Fail> {
     let allotment = allot(rt.alloc(), &graph, &gates, 10, &[])?;
     assert_eq!(rt; allotment.cells(), [10, 11, 12, 10].as_slice());
     assert_eq!(rt; allotment.width(), 13);
+    Ok(())
+}
+
+/// A gate of two gates of two leaves is a tree, and its order takes four cells, as its root's usage says. A further gate that
+/// is no root, and is read by none, is one too many; and a gate that reads one twice reads it two times.
+#[test]
+fn trees_and_others(rt: HostRuntime) -> Result<(), Fail> {
+    let alloc = rt.alloc();
+    let mut graph = Graph::new(alloc);
+    assert_eq!(rt; tree(alloc, &graph)?, None);
+    let a = graph.add(&[])?;
+    let b = graph.add(&[])?;
+    let left = graph.add(&[a, b])?;
+    let c = graph.add(&[])?;
+    let d = graph.add(&[])?;
+    let right = graph.add(&[c, d])?;
+    let root = graph.add(&[left, right])?;
+    assert_eq!(rt; tree(alloc, &graph)?, None);
+    graph.add_root(root)?;
+    assert_eq!(rt; tree(alloc, &graph)?, Some(4));
+    let gates = order(alloc, &graph)?;
+    assert_eq!(rt; peak(alloc, &graph, &gates)?, 4);
+    graph.add(&[])?;
+    assert_eq!(rt; tree(alloc, &graph)?, None);
+
+    let mut twice = Graph::new(alloc);
+    let leaf = twice.add(&[])?;
+    let above = twice.add(&[leaf, leaf])?;
+    twice.add_root(above)?;
+    assert_eq!(rt; tree(alloc, &twice)?, None);
     Ok(())
 }

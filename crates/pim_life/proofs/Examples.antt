@@ -10,6 +10,8 @@ use Rattle.pim_life.specs.declared.life.Start.TheVariants.{Load, At}
 use Rattle.pim_life.specs.declared.life.End.TheVariants.{Unread, Read, Output}
 use Rattle.pim_life.specs.Lives.{lives_of}
 use Rattle.pim_life.specs.Explanations.{explanation}
+use Rattle.pim_life.specs.NorGraphs.{nor_graph_of}
+use Rattle.pim_life.specs.TreeLines.{tree_line}
 
 -- the program of a two-input AND
 abbrev and_program : ProgramView
@@ -62,3 +64,11 @@ again_program = record {
 again_explained : explanation again_program ≡ codes "cell 0: in..1 2..- 3..out\ncell 1: 0..3\ncell 2: 1..- 2..-\ncells 3 cycles 4\n"
 unfolding again_program digits
 again_explained = refl
+
+-- the NORs of the AND are a tree: the last one reads the others
+and_graph : nor_graph_of and_program ≡ record { kids = [] ∷ [] ∷ (0 ∷ 1 ∷ []) ∷ []; roots = 2 ∷ [] }
+and_graph = refl
+
+and_tree : tree_line (nor_graph_of and_program) ≡ codes "tree yes gates 3 cu 3 peak 3 own 3\n"
+unfolding digits
+and_tree = refl

@@ -1,4 +1,5 @@
 mod Examples
+pub mod Drawings
 pub mod Ends
 pub mod Followed
 pub mod Joined

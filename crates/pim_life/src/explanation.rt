@@ -24,7 +24,7 @@ pub fn explain(alloc: Global, program: &Program) -> Result<Vec<u8>, NoMemory>
 }
 
 /// A number in decimal, without leading zeros.
-fn push_number(text: &mut Vec<u8>, number: u32) -> Result<(), NoMemory>
+pub(crate) fn push_number(text: &mut Vec<u8>, number: u32) -> Result<(), NoMemory>
     ensures { OnOk result (text.new.items ≡ text.old.items ++ decimal number) }
 {
     let mut digits = Buffer::new();

@@ -1,6 +1,6 @@
 ghost use Rattle.std.specs.Prelude.{◌≡◌, length, IfOk};
 
-use crate::{End, Life, Start, explain, lives};
+use crate::{End, Life, Start, TreeFault, explain, explain_tree, lives, nor_graph};
 use pim_io::NoMemory;
 use pim_isa::{Cells, Ins, Instr, Operand, Program, ProgramDraft, Target};
 use std::alloc::Global;
@@ -85,6 +85,30 @@ fn explains_an_rm3(rt: HostRuntime) -> Result<(), Fail> {
     assert_eq!(rt;
         text.as_slice(),
         b"cell 0: in..out\ncell 2: 0..1 1..-\ncells 4 cycles 2\n".as_slice()
+    );
+    Ok(())
+}
+
+#[test]
+fn finds_a_tree(rt: HostRuntime) -> Result<(), Fail> {
+    let program = Program::new(and_draft(rt.alloc())?)?;
+    let graph = nor_graph(rt.alloc(), &program)?;
+    assert_eq!(rt; graph.len(), 3);
+    assert_eq!(rt; graph.roots().len(), 1);
+    let text = explain_tree(rt.alloc(), &program)?;
+    assert!(rt;
+        text.as_slice()
+            .ends_with(b"cells 5 cycles 4\ntree yes gates 3 cu 3 peak 3 own 3\n")
+    );
+    Ok(())
+}
+
+#[test]
+fn refuses_another_machine(rt: HostRuntime) -> Result<(), Fail> {
+    let program = Program::new(ProgramDraft::new(rt.alloc(), Target::Plim, 4))?;
+    assert_eq!(rt;
+        explain_tree(rt.alloc(), &program).err(),
+        Some(TreeFault::NotMagic)
     );
     Ok(())
 }

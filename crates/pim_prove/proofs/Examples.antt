@@ -1,7 +1,7 @@
 -- Worked examples of uses, unset cells and vectors, by computation.
 use Rattle.std.proofs.Common.{◌≡◌, [], ◌∷◌, true, false, None, Some, codes, refl}
 use Rattle.pim_isa.specs.Programs.{ProgramView}
-use Rattle.pim_isa.specs.declared.target.Target.TheVariants.{Magic, Plim}
+use Rattle.pim_isa.specs.declared.target.Target.TheVariants.{Magic}
 use Rattle.pim_isa.specs.declared.instr.Ins.TheVariants as ins
 use Rattle.pim_isa.specs.declared.instr.Operand.TheVariants as operand
 use Rattle.pim_isa.specs.declared.instr.Instr.TheVariants.{Init, Nor, Rm3}

@@ -1,15 +1,15 @@
 -- Which cells are set, as marks tell it.
-use Rattle.std.proofs.Common.{◌≡◌, ℕ, zero, suc, ◌+◌, ◌<◌, Bool, true, false, ◌||◌, cond, eqb, List, [], ◌∷◌, ◌++◌, length, drop, set, get_or, replicate, Option, Some, None, inl, inr, refl, sym, ap, subst, ◌∙◌, arith, add-one, drop-cons, length-set, get_or-set_same, get_or-set_other}
+use Rattle.std.proofs.Common.{◌≡◌, ℕ, zero, suc, ◌+◌, ◌<◌, Bool, true, false, ◌||◌, cond, eqb, List, [], ◌∷◌, ◌++◌, length, drop, set, get_or, replicate, Option, Some, None, inl, inr, refl, sym, ap, subst, ◌∙◌, add-one, drop-cons, length-set, get_or-set_same, get_or-set_other}
 use Rattle.std.specs.Prelude.{All, option_map}
 use Rattle.std.specs.Option.{option_or}
 use Rattle.std.proofs.lemmas.Bool.{cases_eq, eq-eqb, ne_eqb}
-use Rattle.std.proofs.lemmas.List.{get_or-replicate, length-replicate}
+use Rattle.std.proofs.lemmas.List.{length-replicate}
 use Rattle.std.proofs.lemmas.List.Elements.{All-cons, All-get_or, All-head, All-nil, All-tail}
 use Rattle.pim_isa.specs.declared.instr.Instr.{Instr}
 use Rattle.pim_isa.specs.Programs.{ProgramView}
 use Rattle.pim_isa.specs.Sound.{cells_of, IsProgram, IsValid}
 use Rattle.pim_isa.specs.Steps.{bit, set_ones}
-use Rattle.pim_isa.specs.Touches.{names, reads, writes}
+use Rattle.pim_isa.specs.Touches.{reads, writes}
 use Rattle.pim_isa.specs.Validity.{has}
 use Rattle.pim_prove.specs.declared.unset.Unset.{Unset}
 use Rattle.pim_prove.specs.declared.unset.Unset.TheVariants.{Used, Output}

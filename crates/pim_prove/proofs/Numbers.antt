@@ -1,5 +1,5 @@
 -- Vectors and their numbers: each vector has one, and numbers that are 2 ^ n apart have one vector.
-use Rattle.std.proofs.Common.{◌≡◌, ℕ, zero, suc, ◌+◌, ◌*◌, ◌/◌, ◌%◌, ◌^◌, ◌<◌, ◌≤◌, Bool, true, false, cond, eqb, List, [], ◌∷◌, length, refl, sym, ap, ◌∙◌, arith}
+use Rattle.std.proofs.Common.{◌≡◌, ℕ, zero, suc, ◌+◌, ◌*◌, ◌/◌, ◌%◌, ◌^◌, ◌<◌, Bool, true, false, cond, eqb, List, [], ◌∷◌, length, refl, ap, ◌∙◌, arith}
 use Rattle.std.proofs.Math.Nat.{add-mul-div_right, div-eq_of_lt, one-le-pow, pow-suc}
 use Rattle.std.proofs.lemmas.Nat.{div-mul-add}
 use Rattle.pim_prove.specs.Vectors.{digits}

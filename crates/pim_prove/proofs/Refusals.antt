@@ -1,12 +1,11 @@
 -- Why a program isn't compared with a netlist, test by test.
-use Rattle.std.proofs.Common.{◌≡◌, ℕ, ◌<◌, ◌≤◌, Bool, true, false, not, cond, eqb, ltb, List, length, Option, Some, None, refl, sym, ap, ◌∙◌, arith}
+use Rattle.std.proofs.Common.{◌≡◌, ◌<◌, ◌≤◌, Bool, true, false, not, cond, eqb, ltb, length, Option, Some, None, refl, sym, ap, ◌∙◌}
 use Rattle.std.specs.Prelude.{is_some, option_map}
 use Rattle.std.proofs.lemmas.Bool.{eqb-true, lt-ltb, le-ltb, or_parts}
 use Rattle.pim_aig.specs.Flat.{ands}
 use Rattle.pim_aig.specs.declared.graph.TheConstants.{MAX_ANDS}
 use Rattle.pim_isa.specs.Programs.{ProgramView}
 use Rattle.pim_net.specs.Netlist.{NetView}
-use Rattle.pim_prove.specs.declared.fault.ProveFault.{ProveFault}
 use Rattle.pim_prove.specs.declared.fault.ProveFault.TheVariants.{Ports, Inputs, Nodes, NotClean}
 use Rattle.pim_prove.specs.declared.unset.Unset.{Unset}
 use Rattle.pim_prove.specs.Clean.{unset_of}

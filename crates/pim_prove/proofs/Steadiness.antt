@@ -7,7 +7,6 @@ use Rattle.std.proofs.lemmas.List.{get_or-set_same}
 use Rattle.std.proofs.lemmas.List.Elements.{All-head, All-tail, All-cons, All-nil, All-weaker}
 use Rattle.pim_isa.specs.declared.instr.Instr.{Instr}
 use Rattle.pim_isa.specs.declared.instr.Instr.TheVariants.{Init, Nor, Rm3}
-use Rattle.pim_isa.specs.declared.instr.Ins.{Ins}
 use Rattle.pim_isa.specs.declared.instr.Operand.{Operand}
 use Rattle.pim_isa.specs.declared.instr.Operand.TheVariants.{Zero, One, Cell}
 use Rattle.pim_isa.specs.Laws.{ExecLaws}
@@ -17,7 +16,7 @@ use Rattle.pim_isa.specs.Steps.{bit, exec, majority, step, value}
 use Rattle.pim_isa.specs.Touches.{names, operands, operand_cells, reads, writes}
 use Rattle.pim_isa.specs.Validity.{has}
 use Rattle.pim_prove.specs.Clean.{are_unequal, set_after, uses}
-use Rattle.pim_prove.specs.Steady.{HoldsInputs, IsSteady, outputs_of}
+use Rattle.pim_prove.specs.Steady.{IsSteady}
 use Rattle.pim_prove.proofs.Cells.{AllSet, AllSet-back, AllSet-front, All-has, any_same, has-front, same_at, same_on}
 
 -- the rows agree on the cells that are set

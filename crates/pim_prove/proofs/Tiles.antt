@@ -1,5 +1,5 @@
 -- Vectors compared 64 at once, and tile by tile.
-use Rattle.std.proofs.Common.{◌≡◌, ℕ, zero, suc, ◌+◌, ◌-◌, ◌*◌, ◌^◌, ◌<◌, ◌≤◌, Bool, true, false, ◌||◌, cond, eqb, List, [], ◌∷◌, length, drop, set, get_or, replicate, Option, Some, None, inl, inr, refl, sym, ap, subst, ◌∙◌, arith, add-one, drop-cons}
+use Rattle.std.proofs.Common.{◌≡◌, ℕ, suc, ◌+◌, ◌-◌, ◌*◌, ◌^◌, ◌<◌, ◌≤◌, Bool, true, false, eqb, List, ◌∷◌, length, drop, set, get_or, replicate, Option, Some, None, inl, inr, sym, ap, ◌∙◌, arith, add-one, drop-cons}
 use Rattle.std.specs.Prelude.{is_some}
 use Rattle.std.specs.Int.{bit_at, trailing_zeros, w64}
 use Rattle.std.proofs.lemmas.Bool.{cases_lt, false≢true, true≢false}
@@ -16,7 +16,7 @@ use Rattle.pim_isa.specs.Results.{fill_bit, load, with_inputs}
 use Rattle.pim_isa.specs.Steps.{bit}
 use Rattle.pim_prove.specs.declared.comparing.Difference.{Difference}
 use Rattle.pim_prove.specs.Vectors.{digits}
-use Rattle.pim_prove.specs.inner.Comparing.{Agrees, IsFound, differ, first_at, first_unlike, lanes_of, row_at}
+use Rattle.pim_prove.specs.inner.Comparing.{IsFound, differ, first_at, first_unlike, row_at}
 use Rattle.pim_prove.proofs.BitLemmas.{is_set-zero}
 use Rattle.pim_prove.proofs.Lanes.{digits-suc}
 use Rattle.pim_prove.proofs.Unlike.{none_unlike}

@@ -11,6 +11,8 @@ use Rattle.pim_io.specs.Bits.{line_of}
 use Rattle.pim_isa.specs.declared.invalid.Invalid.TheVariants as invalid
 use Rattle.pim_net.specs.declared.fault.NetFault.TheVariants as net
 use Rattle.pim_net.specs.declared.kind.Kind.TheVariants as kind
+use Rattle.pim_prove.specs.declared.fault.ProveFault.TheVariants as prove
+use Rattle.pim_prove.specs.declared.unset.Unset.TheVariants as unset
 use Rattle.pim_top.specs.Judged.{fitting_lines, input_refusal, judged_within}
 use Rattle.pim_top.specs.Notes.{refusal_note}
 use Rattle.pim_top.specs.Statuses.{refusal_status}
@@ -140,6 +142,25 @@ vector_note = refl
 
 rows_note : judged judgement.TooManyLines ≡ codes "pim: too large: rows\n"
 rows_note = refl
+
+ports_note : judged (judgement.Prove prove.Ports) ≡ codes "pim: bad input: ports differ\n"
+ports_note = refl
+
+unset_note : judged (judgement.Prove (prove.NotClean (unset.Used 0 2))) ≡ codes "pim: bad input: program instruction 0 uses unset cell 2\n"
+unfolding digits
+unset_note = refl
+
+output_note : judged (judgement.Prove (prove.NotClean (unset.Output 1))) ≡ codes "pim: bad input: program output 1 is unset\n"
+unfolding digits
+output_note = refl
+
+unequal_note : judged (judgement.Unequal (codes "01") 0) ≡ codes "pim: unequal 01 output 0\n"
+unfolding digits
+unequal_note = refl
+
+no_vector_note : judged (judgement.Unequal [] 2) ≡ codes "pim: unequal  output 2\n"
+unfolding digits
+no_vector_note = refl
 
 -- ---- statuses
 too_large : refusal_status (refusal.Judged (judgement.File file.TooLarge)) ≡ status.TooLarge

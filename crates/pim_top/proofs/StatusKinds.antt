@@ -8,11 +8,16 @@ use Rattle.pim_blif.specs.declared.fault.BlifFault.{BlifFault}
 use Rattle.pim_blif.specs.declared.fault.BlifFault.TheVariants as blif
 use Rattle.pim_compile.specs.declared.refusal.Refusal.{Refusal as Compiler}
 use Rattle.pim_compile.specs.declared.refusal.Refusal.TheVariants as compiler
+use Rattle.pim_debug.specs.declared.fault.DebugFault.{DebugFault}
+use Rattle.pim_debug.specs.declared.fault.DebugFault.TheVariants as debug
 use Rattle.pim_file.specs.declared.fault.FileFault.{FileFault}
 use Rattle.pim_file.specs.declared.fault.FileFault.TheVariants as file
 use Rattle.pim_net.specs.declared.fault.NetFault.{NetFault}
 use Rattle.pim_net.specs.declared.fault.NetFault.TheVariants as net
-use Rattle.pim_top.specs.Statuses.{aiger_status, asm_status, blif_status, compiler_status, file_status, judgement_status, net_status, netlist_status, refusal_status}
+use Rattle.pim_top.specs.Statuses.{aiger_status, asm_status, blif_status, compiler_status, file_status, judgement_status, net_status, netlist_status, prove_status, refusal_status}
+use Rattle.pim_prove.specs.declared.fault.ProveFault.{ProveFault}
+use Rattle.pim_prove.specs.declared.fault.ProveFault.TheVariants as prove
+use Rattle.pim_top.specs.Statuses.{aiger_status, asm_status, blif_status, compiler_status, debug_status, file_status, judgement_status, net_status, netlist_status, refusal_status}
 use Rattle.pim_top.specs.declared.judgement.Judgement.{Judgement}
 use Rattle.pim_top.specs.declared.judgement.Judgement.TheVariants as judgement
 use Rattle.pim_top.specs.declared.netlist.NetlistFault.{NetlistFault}
@@ -32,6 +37,7 @@ IsOfBytes status.WriteFault = ⊥
 IsOfBytes status.NoMemory = Unit {0}
 IsOfBytes status.TooFewCells = Unit {0}
 IsOfBytes status.TooLarge = Unit {0}
+IsOfBytes status.Unequal = Unit {0}
 
 net-kind : (f : NetFault) → IsOfBytes (net_status f)
 net-kind net.NoMemory = tt
@@ -63,12 +69,26 @@ asm-kind : (f : AsmFault) → IsOfBytes (asm_status f)
 asm-kind asm.NoMemory = tt
 asm-kind f = tt
 
+prove-kind : (f : ProveFault) → IsOfBytes (prove_status f)
+prove-kind prove.Ports = tt
+prove-kind prove.Inputs = tt
+prove-kind prove.Nodes = tt
+prove-kind (prove.NotClean unset) = tt
+prove-kind prove.NoMemory = tt
+
+debug-kind : (f : DebugFault) → IsOfBytes (debug_status f)
+debug-kind debug.NoMemory = tt
+debug-kind f = tt
+
 pub judgement-kind : (j : Judgement) → IsOfBytes (judgement_status j)
 judgement-kind (judgement.Netlist f) = netlist-kind f
 judgement-kind (judgement.Compile r) = compiler-kind r
 judgement-kind (judgement.File f) = file-kind f
 judgement-kind (judgement.Assembly f) = asm-kind f
+judgement-kind (judgement.Prove f) = prove-kind f
+judgement-kind (judgement.Unequal vector output) = tt
 judgement-kind (judgement.Vector n) = tt
+judgement-kind (judgement.Command n f) = debug-kind f
 judgement-kind judgement.TooManyLines = tt
 judgement-kind judgement.NoMemory = tt
 

@@ -20,14 +20,14 @@ use Rattle.pim_top.proofs.WalkStates.{fits-front, told-map}
 
 -- ---- what a sink took, piece by piece
 -- one piece after another
-took-both : (a b c : Option (List ℕ)) (p q : List ℕ) → TookAll a b p → TookAll b c q → TookAll a c (p ++ q)
+pub took-both : (a b c : Option (List ℕ)) (p q : List ℕ) → TookAll a b p → TookAll b c q → TookAll a c (p ++ q)
 took-both None b c p q h k = tt
 took-both (Some x) None c p q h k = absurd h
 took-both (Some x) (Some y) None p q h k = absurd k
 took-both (Some x) (Some y) (Some z) p q h k = k ∙ ap (λ (t : List ℕ). t ++ q) h ∙ append_assoc x p q
 
 -- a whole piece, and then the first bytes of another one
-then-first : (a b c : Option (List ℕ)) (p q : List ℕ) → TookAll a b p → TookFirst b c q → TookFirst a c (p ++ q)
+pub then-first : (a b c : Option (List ℕ)) (p q : List ℕ) → TookAll a b p → TookFirst b c q → TookFirst a c (p ++ q)
 then-first None b c p q h k = tt
 then-first (Some x) None c p q h k = absurd h
 then-first (Some x) (Some y) None p q h k = absurd k

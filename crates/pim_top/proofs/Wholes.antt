@@ -1,8 +1,9 @@
 -- What follows of how a command ends that writes its text whole.
-use Rattle.std.proofs.Common.{◌≡◌, ◌⊎◌, ℕ, List, ◌++◌, Option, None, Some, Result, Ok, Err, inl, inr, refl, ◌∙◌, subst, arith}
+use Rattle.std.proofs.Common.{sym, ◌≡◌, ◌⊎◌, ℕ, List, ◌++◌, Option, None, Some, Result, Ok, Err, inl, inr, refl, ◌∙◌, subst, arith}
 use Rattle.pim_io.specs.Outside.{Rose, Told}
 use Rattle.pim_words.specs.declared.command.Command.{Command}
-use Rattle.pim_top.specs.Answers.{FilePasses, FileRefused, IsFine}
+use Rattle.pim_words.specs.declared.command.Command.TheVariants.{Prove}
+use Rattle.pim_top.specs.Answers.{EndsFine, FilePasses, FileRefused, IsFine}
 use Rattle.pim_top.specs.Calls.{IsCalm}
 use Rattle.pim_top.specs.Decides.{EarlyDecides, FileDecides, InputDecides}
 use Rattle.pim_top.specs.Reads.{IsOver, IsReadBy, IsWithin, OfBytes, Tells, reads}
@@ -137,21 +138,26 @@ over-within : (limit : Option ℕ) (bytes : List ℕ) → IsOver limit bytes →
 over-within None bytes over within = over
 over-within (Some limit) bytes over within = omega (arith, over, within)
 
-faultless-status : (c : Command) (file input : List ℕ) (answer : Result (List ℕ) Refusal) → IsFaultless c file input → EarlyOrLate c file input answer → (answer_status answer ≡ status.Done) ⊎ (answer_status answer ≡ status.NoMemory)
-faultless-status c file input (Ok text) f h = inl refl
+-- a command that is done ends as with bytes that it takes
+done-fine : (c : Command) → EndsFine c status.Done
+done-fine Prove = inl refl
+done-fine c = refl
+
+faultless-status : (c : Command) (file input : List ℕ) (answer : Result (List ℕ) Refusal) → IsFaultless c file input → EarlyOrLate c file input answer → EndsFine c (answer_status answer) ⊎ (answer_status answer ≡ status.NoMemory)
+faultless-status c file input (Ok text) f h = inl (done-fine c)
 faultless-status c file input (Err refusal.Usage) f h = elim h [ inl e ↦ absurd e | inr l ↦ absurd l.1.1 ]
 faultless-status c file input (Err refusal.NoMemory) f h = inr refl
 faultless-status c file input (Err (refusal.ReadFault o)) f h = elim h [ inl e ↦ absurd e | inr l ↦ absurd l.1.1 ]
 faultless-status c file input (Err (refusal.TooLong origin.Program)) f h = elim h [ inl e ↦ absurd (over-within (reads c origin.Program) file e f.file_fits) | inr l ↦ absurd l.1.1 ]
 faultless-status c file input (Err (refusal.TooLong origin.Input)) f h = elim h [ inl e ↦ absurd e | inr l ↦ absurd (over-within (reads c origin.Input) input l.1.1 f.input_fits) ]
 faultless-status c file input (Err refusal.WriteFault) f h = elim h [ inl e ↦ absurd e | inr l ↦ absurd l.1.1 ]
-faultless-status c file input (Err (refusal.Judged j)) f h = elim h [ inl e ↦ inr (f.file_passes j e.1) | inr l ↦ inr (f.input_passes j l.1.1.1) ]
+faultless-status c file input (Err (refusal.Judged j)) f h = elim h [ inl e ↦ inr (f.file_passes j e.1) | inr l ↦ f.input_passes j l.1.1.1 ]
 
 -- it is done, where what it takes has no fault
 pub whole-complete : {Y : Type 0} (c : Command) (seen : Seen) (result : Result Y Refusal) → ((file input : List ℕ) → IsFine c file input → IsFaultless c file input) → WholeEnds c seen result → IsComplete c seen result
 whole-complete c seen result law h = record {
   ends = λ file input t u calm fine. elim (whole-decided c seen file input result t u calm h) [
-    | inl d ↦ elim (faultless-status c file input d.0 (law file input fine) d.1) [ inl done ↦ inl (d.2 ∙ done) | inr wanting ↦ inr (d.2 ∙ wanting) ]
+    | inl d ↦ elim (faultless-status c file input d.0 (law file input fine) d.1) [ inl done ↦ inl (subst (EndsFine c) (sym d.2) done) | inr wanting ↦ inr (d.2 ∙ wanting) ]
     | inr wanting ↦ inr wanting
   ];
 }

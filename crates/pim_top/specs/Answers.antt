@@ -1,5 +1,5 @@
 -- What each command says of the bytes that it reads.
-use Rattle.std.specs.Prelude.{◌≡◌, ℕ, List, Result, Ok, Err}
+use Rattle.std.specs.Prelude.{◌≡◌, ◌⊎◌, ℕ, List, Result, Ok, Err}
 use Rattle.pim_batch.specs.Runners.{Runner}
 use Rattle.pim_words.specs.declared.command.Command.{Command}
 use Rattle.pim_isa.specs.Programs.{ProgramView}
@@ -11,8 +11,11 @@ use Rattle.pim_top.specs.commands.Convert.{convert_of}
 use Rattle.pim_top.specs.commands.Debug.{DebugsFine}
 use Rattle.pim_top.specs.commands.Explain.{explain_of}
 use Rattle.pim_top.specs.commands.List.{list_of}
+use Rattle.pim_top.specs.commands.Prove.{ProveAnswers, ProvesFine}
 use Rattle.pim_top.specs.commands.Run.{RunsFine, run_of}
 use Rattle.pim_top.specs.declared.judgement.Judgement.{Judgement}
+use Rattle.pim_top.specs.declared.status.Status.{Status}
+use Rattle.pim_top.specs.declared.status.Status.TheVariants.{Done, Unequal}
 
 -- the text that a command writes whole for the bytes of its program file and of its input, or why they are refused; a source
 -- that it doesn't read counts as empty, and a command that streams writes nothing whole
@@ -21,6 +24,7 @@ Answers (commands.Compile target level cells) file input answer = CompileAnswers
 Answers (commands.Run fill) file input answer = ⊥
 Answers commands.List file input answer = answer ≡ list_of file
 Answers commands.Explain file input answer = answer ≡ explain_of file
+Answers commands.Prove file input answer = ProveAnswers file input answer
 Answers commands.Asm file input answer = answer ≡ asm_of input
 Answers (commands.Debug fill) file input answer = ⊥
 Answers (commands.Convert form) file input answer = answer ≡ convert_of form input
@@ -28,12 +32,14 @@ Answers (commands.Convert form) file input answer = answer ≡ convert_of form i
 -- the program file is refused so, whatever the input is
 abbrev pub FileRefused : Command → List ℕ → Judgement → Type 0
 FileRefused (commands.Run fill) file j = run_of fill file ≡ Err j
+FileRefused commands.Prove file j = program_of file ≡ Err j
 FileRefused (commands.Debug fill) file j = program_of file ≡ Err j
 FileRefused command file j = (input : List ℕ) → Answers command file input (Err j)
 
 -- the program file of a command that reads the input too is not refused by itself
 abbrev pub FilePasses : Command → List ℕ → Type 0
 FilePasses (commands.Run fill) file = (runner : Runner) × (run_of fill file ≡ Ok runner)
+FilePasses commands.Prove file = (program : ProgramView) × (program_of file ≡ Ok program)
 FilePasses (commands.Debug fill) file = (program : ProgramView) × (program_of file ≡ Ok program)
 FilePasses command file = Unit {0}
 
@@ -43,6 +49,12 @@ IsFine (commands.Compile target level cells) file input = CompilesFine target le
 IsFine (commands.Run fill) file input = RunsFine file input
 IsFine commands.List file input = IsProgramFile file
 IsFine commands.Explain file input = IsProgramFile file
+IsFine commands.Prove file input = ProvesFine file input
 IsFine commands.Asm file input = AssemblesFine input
 IsFine (commands.Debug fill) file input = DebugsFine fill file input
 IsFine (commands.Convert form) file input = IsProgramFile input
+
+-- with bytes that it takes a command is done; or it tells that what it compares is not equal
+abbrev pub EndsFine : Command → Status → Type 0
+EndsFine commands.Prove s = (s ≡ Done) ⊎ (s ≡ Unequal)
+EndsFine command s = s ≡ Done

@@ -6,6 +6,7 @@ pub mod Streams
 pub mod Reads
 pub mod Judged
 pub mod Walks
+pub mod Debugging
 pub mod Answers
 pub mod Rows
 pub mod Wholes

@@ -8,6 +8,8 @@ use Rattle.pim_blif.specs.declared.fault.BlifFault.{BlifFault}
 use Rattle.pim_blif.specs.declared.fault.BlifFault.TheVariants as blif
 use Rattle.pim_compile.specs.declared.refusal.Refusal.{Refusal as Compiler}
 use Rattle.pim_compile.specs.declared.refusal.Refusal.TheVariants as compiler
+use Rattle.pim_debug.specs.declared.fault.DebugFault.{DebugFault}
+use Rattle.pim_debug.specs.declared.fault.DebugFault.TheVariants as debug
 use Rattle.pim_file.specs.declared.fault.FileFault.{FileFault}
 use Rattle.pim_file.specs.declared.fault.FileFault.TheVariants as file
 use Rattle.pim_isa.specs.declared.invalid.Invalid.{Invalid}
@@ -16,6 +18,10 @@ use Rattle.pim_net.specs.declared.fault.NetFault.{NetFault}
 use Rattle.pim_net.specs.declared.fault.NetFault.TheVariants as net
 use Rattle.pim_net.specs.declared.kind.Kind.{Kind}
 use Rattle.pim_net.specs.declared.kind.Kind.TheVariants as kind
+use Rattle.pim_prove.specs.declared.fault.ProveFault.{ProveFault}
+use Rattle.pim_prove.specs.declared.fault.ProveFault.TheVariants as prove
+use Rattle.pim_prove.specs.declared.unset.Unset.{Unset}
+use Rattle.pim_prove.specs.declared.unset.Unset.TheVariants as unset
 use Rattle.pim_top.specs.declared.judgement.Judgement.{Judgement}
 use Rattle.pim_top.specs.declared.judgement.Judgement.TheVariants as judgement
 use Rattle.pim_top.specs.declared.netlist.NetlistFault.{NetlistFault}
@@ -122,13 +128,45 @@ asm_text (asm.Name n) = bad (codes "assembly name in line " ++ decimal n)
 asm_text (asm.Invalid fault) = invalid_text fault
 asm_text asm.NoMemory = wanting
 
+-- which cell a program uses unset
+abbrev pub unset_text : Unset → List ℕ
+unset_text (unset.Used k cell) = instruction_text k (codes " uses unset cell " ++ decimal cell)
+unset_text (unset.Output k) = bad (codes "program output " ++ (decimal k ++ codes " is unset"))
+
+-- why a program is not compared with a netlist
+abbrev pub prove_text : ProveFault → List ℕ
+prove_text prove.Ports = bad (codes "ports differ")
+prove_text prove.Inputs = large (codes "inputs")
+prove_text prove.Nodes = large (codes "nodes")
+prove_text (prove.NotClean unset) = unset_text unset
+prove_text prove.NoMemory = wanting
+
+-- at which vector and output a program differs from a netlist
+abbrev pub unequal_text : List ℕ → ℕ → List ℕ
+unequal_text vector output = codes "unequal " ++ (vector ++ (codes " output " ++ decimal output))
+
+-- that the command in a line is wrong, and how
+abbrev pub debug_line : ℕ → List ℕ → List ℕ → List ℕ
+debug_line line text number = bad (codes "debug line " ++ (decimal line ++ (text ++ number)))
+
+-- why a command is refused
+abbrev pub debug_text : ℕ → DebugFault → List ℕ
+debug_text line debug.BadCommand = debug_line line (codes ": bad command") []
+debug_text line (debug.NoSuchBreak n) = debug_line line (codes ": no such break ") (decimal n)
+debug_text line (debug.OutOfProgram k) = debug_line line (codes ": out of program ") (decimal k)
+debug_text line (debug.NoSuchCell c) = debug_line line (codes ": no such cell ") (decimal c)
+debug_text line debug.NoMemory = wanting
+
 -- why bytes are refused
 abbrev pub judgement_text : Judgement → List ℕ
 judgement_text (judgement.Netlist fault) = netlist_text fault
 judgement_text (judgement.Compile refusal) = compiler_text refusal
 judgement_text (judgement.File fault) = file_text fault
 judgement_text (judgement.Assembly fault) = asm_text fault
+judgement_text (judgement.Prove fault) = prove_text fault
+judgement_text (judgement.Unequal vector output) = unequal_text vector output
 judgement_text (judgement.Vector n) = bad (codes "vector line " ++ decimal n)
+judgement_text (judgement.Command n fault) = debug_text n fault
 judgement_text judgement.TooManyLines = large (codes "rows")
 judgement_text judgement.NoMemory = wanting
 

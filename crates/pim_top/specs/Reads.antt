@@ -2,7 +2,7 @@
 use Rattle.std.specs.Prelude.{◌≡◌, ◌≤◌, ◌<◌, ℕ, Bool, true, false, List, [], Option, None, Some, length}
 use Rattle.pim_io.specs.Outside.{Told}
 use Rattle.pim_words.specs.declared.command.Command.{Command}
-use Rattle.pim_words.specs.declared.command.Command.TheVariants.{Asm, Compile, Convert, Debug, Explain, List as Listed, Run}
+use Rattle.pim_words.specs.declared.command.Command.TheVariants.{Asm, Compile, Convert, Debug, Explain, List as Listed, Prove, Run}
 use Rattle.pim_top.specs.Streams.{IsRead, IsUntouched, Seen, Stream}
 use Rattle.pim_io.specs.declared.limits.TheConstants.{MAX_INPUT, MAX_PROGRAM}
 use Rattle.pim_top.specs.declared.refusal.Origin.{Origin}
@@ -18,6 +18,8 @@ reads Listed Program = Some MAX_PROGRAM
 reads Listed Input = None
 reads Explain Program = Some MAX_PROGRAM
 reads Explain Input = None
+reads Prove Program = Some MAX_PROGRAM
+reads Prove Input = Some MAX_INPUT
 reads Asm Program = None
 reads Asm Input = Some MAX_INPUT
 reads (Debug fill) Program = Some MAX_PROGRAM

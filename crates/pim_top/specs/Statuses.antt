@@ -8,10 +8,14 @@ use Rattle.pim_blif.specs.declared.fault.BlifFault.{BlifFault}
 use Rattle.pim_blif.specs.declared.fault.BlifFault.TheVariants as blif
 use Rattle.pim_compile.specs.declared.refusal.Refusal.{Refusal as Compiler}
 use Rattle.pim_compile.specs.declared.refusal.Refusal.TheVariants as compiler
+use Rattle.pim_debug.specs.declared.fault.DebugFault.{DebugFault}
+use Rattle.pim_debug.specs.declared.fault.DebugFault.TheVariants as debug
 use Rattle.pim_file.specs.declared.fault.FileFault.{FileFault}
 use Rattle.pim_file.specs.declared.fault.FileFault.TheVariants as file
 use Rattle.pim_net.specs.declared.fault.NetFault.{NetFault}
 use Rattle.pim_net.specs.declared.fault.NetFault.TheVariants as net
+use Rattle.pim_prove.specs.declared.fault.ProveFault.{ProveFault}
+use Rattle.pim_prove.specs.declared.fault.ProveFault.TheVariants as prove
 use Rattle.pim_top.specs.declared.judgement.Judgement.{Judgement}
 use Rattle.pim_top.specs.declared.judgement.Judgement.TheVariants as judgement
 use Rattle.pim_top.specs.declared.netlist.NetlistFault.{NetlistFault}
@@ -21,7 +25,7 @@ use Rattle.pim_top.specs.declared.refusal.Refusal.TheVariants as refusal
 use Rattle.pim_top.specs.declared.status.Status.{Status}
 use Rattle.pim_top.specs.declared.status.Status.TheVariants as status
 
--- the exit status: 0 where all was done, and else 1 to 7
+-- the exit status: 0 where all was done, and else 1 to 8
 abbrev pub code_of : Status → ℕ
 code_of status.Done = 0
 code_of status.BadInput = 1
@@ -31,6 +35,7 @@ code_of status.WriteFault = 4
 code_of status.NoMemory = 5
 code_of status.TooFewCells = 6
 code_of status.TooLarge = 7
+code_of status.Unequal = 8
 
 -- a netlist that is not well-formed is a bad input
 abbrev pub net_status : NetFault → Status
@@ -73,13 +78,29 @@ abbrev pub asm_status : AsmFault → Status
 asm_status asm.NoMemory = status.NoMemory
 asm_status fault = status.BadInput
 
+-- what isn't compared with a netlist is a bad input, or too large
+abbrev pub prove_status : ProveFault → Status
+prove_status prove.Ports = status.BadInput
+prove_status prove.Inputs = status.TooLarge
+prove_status prove.Nodes = status.TooLarge
+prove_status (prove.NotClean unset) = status.BadInput
+prove_status prove.NoMemory = status.NoMemory
+
+-- a command that is refused is a bad input
+abbrev pub debug_status : DebugFault → Status
+debug_status debug.NoMemory = status.NoMemory
+debug_status fault = status.BadInput
+
 -- the status of a judgement
 abbrev pub judgement_status : Judgement → Status
 judgement_status (judgement.Netlist fault) = netlist_status fault
 judgement_status (judgement.Compile refusal) = compiler_status refusal
 judgement_status (judgement.File fault) = file_status fault
 judgement_status (judgement.Assembly fault) = asm_status fault
+judgement_status (judgement.Prove fault) = prove_status fault
+judgement_status (judgement.Unequal vector output) = status.Unequal
 judgement_status (judgement.Vector n) = status.BadInput
+judgement_status (judgement.Command n fault) = debug_status fault
 judgement_status judgement.TooManyLines = status.TooLarge
 judgement_status judgement.NoMemory = status.NoMemory
 

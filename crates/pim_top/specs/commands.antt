@@ -4,4 +4,5 @@ pub mod Convert
 pub mod Debug
 pub mod Explain
 pub mod List
+pub mod Prove
 pub mod Run

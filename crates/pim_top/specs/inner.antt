@@ -1,4 +1,5 @@
 pub mod Faultless
+pub mod Sessions
 pub mod Standing
 pub mod Unread
 pub mod Writing

@@ -5,4 +5,5 @@ pub mod convert;
 pub mod debug;
 pub mod explain;
 pub mod list;
+pub mod prove;
 pub mod run;

@@ -1,16 +1,19 @@
 //! Why bytes are refused, by what they say alone.
 ghost use Rattle.std.specs.Prelude.{◌≡◌};
-ghost use Rattle.pim_top.specs.Statuses.{aiger_status, asm_status, blif_status, compiler_status, file_status, judgement_status, net_status, netlist_status};
+ghost use Rattle.pim_top.specs.Statuses.{aiger_status, asm_status, blif_status, compiler_status, debug_status, file_status, judgement_status, net_status, netlist_status, prove_status};
 ghost use Rattle.pim_top.specs.declared.judgement.Judgement.TheVariants as judgements;
 
 use crate::Status;
 use crate::netlist::NetlistFault;
+use crate::vector::VectorText;
 use pim_aiger::AigerFault;
 use pim_asm::AsmFault;
 use pim_blif::BlifFault;
+use pim_debug::DebugFault;
 use pim_file::FileFault;
 use pim_io::NoMemory;
 use pim_net::NetFault;
+use pim_prove::ProveFault;
 
 /// Why bytes are refused: the fault of the layer that refused them, as it is, and nothing of the outside.
 #[derive(Debug, Drop)]
@@ -23,9 +26,15 @@ pub enum Judgement {
     File(FileFault),
     /// The bytes are no assembly.
     Assembly(AsmFault),
+    /// The program is not compared with the netlist.
+    Prove(ProveFault),
+    /// At this vector, the least, the program's outputs aren't the netlist's, and this is the first output that differs.
+    Unequal { vector: VectorText, output: u32 },
     /// The line of this number, from 1, is no vector of the program's inputs.
     Vector(u32),
-    /// There are more lines of vectors than are read.
+    /// The command in the line of this number, from 1, is refused.
+    Command(u32, DebugFault),
+    /// There are more lines of the input than are read.
     TooManyLines,
     /// Memory ran out, which says nothing of the bytes.
     NoMemory,
@@ -49,7 +58,10 @@ impl Judgement {
             Judgement::Compile(refusal) => compiler_status(*refusal),
             Judgement::File(fault) => file_status(*fault),
             Judgement::Assembly(fault) => asm_status(*fault),
+            Judgement::Prove(fault) => prove_status(*fault),
+            Judgement::Unequal { .. } => Status::Unequal,
             Judgement::Vector(_) => Status::BadInput,
+            Judgement::Command(_, fault) => debug_status(*fault),
             Judgement::TooManyLines => Status::TooLarge,
             Judgement::NoMemory => Status::NoMemory,
         }
@@ -128,6 +140,27 @@ fn asm_status(fault: AsmFault) -> Status
 {
     match fault {
         AsmFault::NoMemory => Status::NoMemory,
+        _ => Status::BadInput,
+    }
+}
+
+/// The status of a program that is not compared.
+fn prove_status(fault: ProveFault) -> Status
+    ensures { result ≡ prove_status fault }
+{
+    match fault {
+        ProveFault::Ports | ProveFault::NotClean(_) => Status::BadInput,
+        ProveFault::Inputs | ProveFault::Nodes => Status::TooLarge,
+        ProveFault::NoMemory => Status::NoMemory,
+    }
+}
+
+/// The status of a command's refusal.
+fn debug_status(fault: DebugFault) -> Status
+    ensures { result ≡ debug_status fault }
+{
+    match fault {
+        DebugFault::NoMemory => Status::NoMemory,
         _ => Status::BadInput,
     }
 }

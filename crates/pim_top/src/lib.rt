@@ -12,6 +12,7 @@ mod reading;
 mod refusal;
 mod status;
 mod top;
+mod vector;
 mod walk;
 mod whole;
 

@@ -2,21 +2,24 @@
 ghost use Rattle.std.specs.Prelude.{◌≡◌, ◌++◌, OnOk, decimal};
 ghost use Rattle.pim_io.specs.Outside.{Wrote};
 ghost use Rattle.pim_top.specs.Calls.{IsNoted};
-ghost use Rattle.pim_top.specs.Notes.{aiger_text, asm_text, bad, blif_line, blif_text, compiler_text, file_text, instruction_text, invalid_text, judgement_text, kind_word, large, net_text, note, origin_word, refusal_text, spaced};
+ghost use Rattle.pim_top.specs.Notes.{aiger_text, asm_text, bad, blif_line, blif_text, compiler_text, debug_line, debug_text, file_text, instruction_text, invalid_text, judgement_text, kind_word, large, net_text, note, origin_word, prove_text, refusal_text, spaced, unequal_text, unset_text};
 ghost use Rattle.pim_top.specs.Streams.{stream};
 ghost use Rattle.pim_top.specs.inner.Writing.{WroteLine};
 
 use crate::judgement::Judgement;
 use crate::netlist::NetlistFault;
 use crate::refusal::{Origin, Refusal};
+use crate::vector::VectorText;
 use itoa::Buffer;
 use pim_aiger::AigerFault;
 use pim_asm::AsmFault;
 use pim_blif::BlifFault;
+use pim_debug::DebugFault;
 use pim_file::FileFault;
 use pim_io::{Sink, SinkFault, tell_writes, write_all, write_pieces};
 use pim_isa::Invalid;
 use pim_net::{Kind, Names, NetFault};
+use pim_prove::{ProveFault, Unset};
 
 /// Writes the note of an answer, as far as the sink takes it: none where all was done.
 pub fn tell<E: Sink>(answer: &Result<(), Refusal>, notes: &mut E)
@@ -53,7 +56,10 @@ fn write_judgement<E: Sink>(notes: &mut E, judgement: &Judgement) -> Result<(), 
         Judgement::Compile(refusal) => write_compiler(notes, *refusal),
         Judgement::File(fault) => write_file(notes, *fault),
         Judgement::Assembly(fault) => write_assembly(notes, *fault),
+        Judgement::Prove(fault) => write_prove(notes, *fault),
+        Judgement::Unequal { vector, output } => write_unequal(notes, vector, *output),
         Judgement::Vector(line) => write_bad_number(notes, b"vector line ", *line),
+        Judgement::Command(line, fault) => write_command(notes, *line, *fault),
         Judgement::TooManyLines => write_large(notes, b"rows"),
         Judgement::NoMemory => write_text(notes, b"no memory"),
     }
@@ -133,6 +139,51 @@ fn write_blif_line<E: Sink>(
     write_pieces(notes, &pieces)
 }
 
+/// Writes why a command is refused, with its line.
+fn write_command<E: Sink>(notes: &mut E, line: u32, fault: DebugFault) -> Result<(), SinkFault>
+    ensures { WroteLine E.taken E.faults notes.old notes.new (debug_text line fault) result }
+{
+    let mut digits = Buffer::new();
+    match fault {
+        DebugFault::BadCommand => write_debug_line(notes, line, b": bad command", b""),
+        DebugFault::NoSuchBreak(number) => {
+            let number = digits.format(number).as_bytes();
+            write_debug_line(notes, line, b": no such break ", number)
+        }
+        DebugFault::OutOfProgram(at) => {
+            let at = digits.format(at).as_bytes();
+            write_debug_line(notes, line, b": out of program ", at)
+        }
+        DebugFault::NoSuchCell(cell) => {
+            let cell = digits.format(cell).as_bytes();
+            write_debug_line(notes, line, b": no such cell ", cell)
+        }
+        DebugFault::NoMemory => write_text(notes, b"no memory"),
+    }
+}
+
+/// Writes what is wrong with the command in a line.
+fn write_debug_line<E: Sink>(
+    notes: &mut E,
+    line: u32,
+    text: &[u8],
+    number: &[u8],
+) -> Result<(), SinkFault>
+    ensures { WroteLine E.taken E.faults notes.old notes.new (debug_line line text.now number.now) result }
+{
+    let mut digits = Buffer::new();
+    let pieces = [
+        b"pim: ".as_slice(),
+        b"bad input: ",
+        b"debug line ",
+        digits.format(line).as_bytes(),
+        text,
+        number,
+        b"\n",
+    ];
+    write_pieces(notes, &pieces)
+}
+
 /// Writes the fault of a netlist with the labels of the signals that it names.
 fn write_net<E: Sink>(notes: &mut E, fault: &NetFault, labels: &Names) -> Result<(), SinkFault>
     ensures { WroteLine E.taken E.faults notes.old notes.new (net_text fault.now labels.now) result }
@@ -169,6 +220,68 @@ fn write_assembly<E: Sink>(notes: &mut E, fault: AsmFault) -> Result<(), SinkFau
         AsmFault::Invalid(fault) => write_invalid(notes, fault),
         AsmFault::NoMemory => write_text(notes, b"no memory"),
     }
+}
+
+/// Writes why a program is not compared with a netlist.
+fn write_prove<E: Sink>(notes: &mut E, fault: ProveFault) -> Result<(), SinkFault>
+    ensures { WroteLine E.taken E.faults notes.old notes.new (prove_text fault) result }
+{
+    match fault {
+        ProveFault::Ports => write_bad(notes, b"ports differ"),
+        ProveFault::Inputs => write_large(notes, b"inputs"),
+        ProveFault::Nodes => write_large(notes, b"nodes"),
+        ProveFault::NotClean(unset) => write_unset(notes, unset),
+        ProveFault::NoMemory => write_text(notes, b"no memory"),
+    }
+}
+
+/// Writes which cell a program uses unset.
+fn write_unset<E: Sink>(notes: &mut E, unset: Unset) -> Result<(), SinkFault>
+    ensures { WroteLine E.taken E.faults notes.old notes.new (unset_text unset) result }
+{
+    let mut digits = Buffer::new();
+    let mut number = Buffer::new();
+    match unset {
+        Unset::Used { instr, cell } => {
+            let pieces = [
+                b"pim: ".as_slice(),
+                b"bad input: ",
+                b"program instruction ",
+                number.format(instr).as_bytes(),
+                b" uses unset cell ",
+                digits.format(cell).as_bytes(),
+                b"\n",
+            ];
+            write_pieces(notes, &pieces)
+        }
+        Unset::Output(output) => {
+            let pieces = [
+                b"pim: ".as_slice(),
+                b"bad input: ",
+                b"program output ",
+                digits.format(output).as_bytes(),
+                b" is unset",
+                b"\n",
+            ];
+            write_pieces(notes, &pieces)
+        }
+    }
+}
+
+/// Writes at which vector and output a program differs from a netlist.
+fn write_unequal<E: Sink>(notes: &mut E, vector: &VectorText, output: u32) -> Result<(), SinkFault>
+    ensures { WroteLine E.taken E.faults notes.old notes.new (unequal_text vector.now output) result }
+{
+    let mut digits = Buffer::new();
+    let pieces = [
+        b"pim: ".as_slice(),
+        b"unequal ",
+        vector.bytes(),
+        b" output ",
+        digits.format(output).as_bytes(),
+        b"\n",
+    ];
+    write_pieces(notes, &pieces)
 }
 
 /// Writes why a program is not valid, with the instruction or the port.

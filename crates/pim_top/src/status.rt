@@ -21,10 +21,12 @@ pub enum Status {
     TooFewCells,
     /// A limit of the tool is passed.
     TooLarge,
+    /// A program is not equal to a netlist.
+    Unequal,
 }
 
 impl Status {
-    /// The exit status: 0 for `Done`, and then 1 to 7 in the order of the variants.
+    /// The exit status: 0 for `Done`, and then 1 to 8 in the order of the variants.
     pub fn code(self) -> u8
         ensures { result ≡ code_of self }
     {

@@ -4,7 +4,7 @@ ghost use Rattle.std.specs.String.{string_bytes};
 ghost use Rattle.pim_words.specs.Plain.{IsPlain, IsTaken};
 ghost use Rattle.pim_words.specs.Reading.{IsWithin as HasNumbers, command_said, is_usage};
 ghost use Rattle.pim_words.specs.declared.command.Command.{Command};
-ghost use Rattle.pim_top.specs.Answers.{IsFine};
+ghost use Rattle.pim_top.specs.Answers.{EndsFine, IsFine};
 ghost use Rattle.pim_top.specs.Calls.{FileIsFine, HasEnded, IsCalm, IsDecided, IsDone, IsFileDecided, IsIdle, Ends, IsNoted, Obeys};
 ghost use Rattle.pim_io.specs.Outside.{Rose};
 ghost use Rattle.pim_top.specs.Notes.{refusal_note};
@@ -20,6 +20,7 @@ use crate::commands::convert::Convert;
 use crate::commands::debug::debug;
 use crate::commands::explain::Explain;
 use crate::commands::list;
+use crate::commands::prove::Prove;
 use crate::commands::run::run;
 use crate::note::tell;
 use crate::refusal::{Origin, Refusal};
@@ -87,7 +88,7 @@ pub fn pim<P: Source, S: Source, K: Sink, E: Sink>(
         → IsCalm (seen (stream P.left P.faults program.old program.new)
         (stream S.left S.faults input.old input.new) (stream K.taken K.faults output.old output.new))
         → IsFine command file bytes
-        → (result ≡ Status.Done) ⊎ (result ≡ Status.NoMemory) }
+        → EndsFine command result ⊎ (result ≡ Status.NoMemory) }
 
     // What a refusal leaves.
     ensures nothing { (command : Command) → command_said (map string_bytes words.now) ≡ Some command → streams command ≡ false
@@ -164,6 +165,7 @@ fn execute<P: Source, S: Source, K: Sink>(
         Command::Run { fill } => run(alloc, fill, program, input, output),
         Command::List => write_text(alloc, &list::List, program, input, output),
         Command::Explain => write_text(alloc, &Explain, program, input, output),
+        Command::Prove => write_text(alloc, &Prove, program, input, output),
         Command::Asm => write_text(alloc, &Asm, program, input, output),
         Command::Debug { fill } => debug(alloc, fill, program, input, output),
         Command::Convert { form } => write_text(alloc, &Convert { form }, program, input, output),

@@ -63,7 +63,7 @@ file_like_an_option = refl
 no_file : is_usage (codes "run" ∷ []) ≡ true
 no_file = refl
 
-not_built : is_usage (codes "prove" ∷ codes "a" ∷ []) ≡ true
+not_built : is_usage (codes "link" ∷ codes "a" ∷ []) ≡ true
 not_built = refl
 
 without_file : others (codes "run" ∷ codes "--fill" ∷ codes "--fill" ∷ codes "ones" ∷ []) ≡ codes "run" ∷ codes "--fill" ∷ codes "ones" ∷ []

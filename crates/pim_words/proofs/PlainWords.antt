@@ -151,6 +151,10 @@ explain_taken : (file : Text) → IsTaken commands.Explain (file_words (codes "e
 unfolding clap_on_literals
 explain_taken file = (refl, refl)
 
+prove_taken : (file : Text) → IsTaken commands.Prove (file_words (codes "prove") file)
+unfolding clap_on_literals
+prove_taken file = (refl, refl)
+
 asm_taken : IsTaken commands.Asm (codes "asm" ∷ [])
 unfolding clap_on_literals
 asm_taken = (refl, refl)
@@ -180,6 +184,7 @@ plain_taken (commands.Compile target Zero n) words plain =
 plain_taken (commands.Run fill) words plain = fill_taken (codes "run") commands.Run run_alone_taken run_taken fill words plain
 plain_taken commands.List words plain = subst (IsTaken commands.List) (sym plain.1) (list_taken plain.0)
 plain_taken commands.Explain words plain = subst (IsTaken commands.Explain) (sym plain.1) (explain_taken plain.0)
+plain_taken commands.Prove words plain = subst (IsTaken commands.Prove) (sym plain.1) (prove_taken plain.0)
 plain_taken commands.Asm words plain = subst (IsTaken commands.Asm) (sym plain) asm_taken
 plain_taken (commands.Debug fill) words plain = fill_taken (codes "debug") commands.Debug debug_alone_taken debug_taken fill words plain
 plain_taken (commands.Convert form) words plain = subst (IsTaken (commands.Convert form)) (sym plain) (convert_taken form)

@@ -66,6 +66,7 @@ IsPlain (commands.Compile target level cells) words = (cells ≤ 1048576)
 IsPlain (commands.Run fill) words = IsPlainFill (codes "run") fill words
 IsPlain commands.List words = IsPlainFile (codes "list") words
 IsPlain commands.Explain words = IsPlainFile (codes "explain") words
+IsPlain commands.Prove words = IsPlainFile (codes "prove") words
 IsPlain commands.Asm words = words ≡ codes "asm" ∷ []
 IsPlain (commands.Debug fill) words = IsPlainFill (codes "debug") fill words
 IsPlain (commands.Convert form) words = words ≡ convert_words form

@@ -88,6 +88,7 @@ cli name =
     else if bytes_eq name (codes "list") then Some (without_options (codes "list") commands.List)
     else if bytes_eq name (codes "explain") then Some
     (without_options (codes "explain") commands.Explain)
+    else if bytes_eq name (codes "prove") then Some (without_options (codes "prove") commands.Prove)
     else if bytes_eq name (codes "asm") then Some (without_options (codes "asm") commands.Asm)
     else if bytes_eq name (codes "debug") then Some (with_fill (codes "debug") commands.Debug)
     else if bytes_eq name (codes "convert") then Some convert_command

@@ -56,6 +56,8 @@ pub enum Command {
     List,
     /// `explain`: a program becomes an account of when each cell is used.
     Explain,
+    /// `prove`: a program is compared with a netlist on all vectors.
+    Prove,
     /// `asm`: assembly becomes a program.
     Asm,
     /// `debug`: a program is executed step by step, as the lines of the input ask.

@@ -66,6 +66,7 @@ fn read_named(
         "run" => read_run(alloc, others),
         "list" => read_without_options(alloc, "list", others, Command::List),
         "explain" => read_without_options(alloc, "explain", others, Command::Explain),
+        "prove" => read_without_options(alloc, "prove", others, Command::Prove),
         "asm" => read_without_options(alloc, "asm", words, Command::Asm),
         "debug" => read_debug(alloc, others),
         "convert" => read_convert(alloc, words),

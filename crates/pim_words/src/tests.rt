@@ -123,6 +123,7 @@ fn refuses_other_words_of_others(rt: HostRuntime) -> Result<(), Fail> {
         "run --fill ones a",
         "list",
         "list a b",
+        "prove",
         "asm a",
         "convert",
         "convert --form 3",

@@ -1,1 +1,5 @@
 pub mod Ends
+pub mod Fine
+pub mod Late
+pub mod Lines
+pub mod Told

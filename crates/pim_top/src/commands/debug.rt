@@ -1,17 +1,37 @@
-//! `debug`: a program is executed step by step, as the lines of the input ask. A stub, which answers that memory ran out.
+//! `debug`: a program is executed forward and back, as the lines of the input ask.
+ghost use Rattle.std.specs.Prelude.{◌≡◌, ◌+◌, ◌≤◌, ◌++◌, ◌∷◌, [], ℕ, not, length, codes, decimal, List, Option, None, Some, true, IfErr, IfOk, OnOk, OnErr};
+ghost use Rattle.pim_io.specs.Bits.{bits_of};
+ghost use Rattle.pim_io.specs.Outside.{Told, TookAll};
+ghost use Rattle.pim_isa.specs.declared.target.Fill.{Fill};
 ghost use Rattle.pim_words.specs.declared.command.Command.TheVariants as commands;
+ghost use Rattle.pim_debug.specs.States.{SessionView};
+ghost use Rattle.pim_top.specs.Debugging.{DebuggedAll, digit_of, digits_of, longest_of, reply_line, session_of};
+ghost use Rattle.pim_top.specs.Judged.{is_vector};
 ghost use Rattle.pim_top.specs.Streams.{seen, stream};
 ghost use Rattle.pim_top.specs.commands.Debug.{DebugEnds};
 ghost use Rattle.pim_top.specs.inner.Faultless.{IsComplete};
+ghost use Rattle.pim_top.specs.inner.Sessions.{DebugStops, DebugsOn, IsDebugging, IsOfDebug, IsOfInput, IsUnwrittenReply, command_refusal, debug_refusal, is_quit};
+ghost use Rattle.pim_top.specs.inner.Standing.{IsFurther, first_line};
 
-use crate::refusal::Refusal;
-use pim_io::{Sink, Source};
+use crate::commands::run::fill_of;
+use crate::judgement::Judgement;
+use crate::program::load_program;
+use crate::refusal::{Origin, Refusal};
+use itoa::Buffer;
+use pim_debug::{DebugFault, Reply, Session};
+use pim_io::{NoMemory, Sink, Source, write_all};
+use pim_isa::{Fill, Program};
+use pim_vectors::{Lines, LinesFault, vector_fits};
 use pim_words::FillWord;
 use std::alloc::Global;
 
-/// Reads a program to its end, and obeys each line of the input.
+/// The longest line has as many bytes as there are inputs, and so many at least.
+const LINE: u32 = 64;
+
+/// Reads a program to its end, and obeys each line of the input: the first is the vector of the inputs, with `fill` in all other
+/// cells, and each further one a command. Each reply is written before the next line is read.
 pub fn debug<P: Source, S: Source, K: Sink>(
-    _alloc: Global,
+    alloc: Global,
     fill: FillWord,
     program: &mut P,
     input: &mut S,
@@ -22,9 +42,283 @@ pub fn debug<P: Source, S: Source, K: Sink>(
     ensures complete { IsComplete (commands.Debug fill) (seen (stream P.left P.faults program.old program.new)
         (stream S.left S.faults input.old input.new) (stream K.taken K.faults output.old output.new)) result }
 {
-    let _ = fill;
-    let _ = program;
-    let _ = input;
-    let _ = output;
-    Err(Refusal::NoMemory)
+    obey(alloc, fill, program, input, output)
+}
+
+/// The same, by what the sources give.
+fn obey<P: Source, S: Source, K: Sink>(
+    alloc: Global,
+    fill: FillWord,
+    program: &mut P,
+    input: &mut S,
+    output: &mut K,
+) -> Result<(), Refusal>
+    ensures { DebugEnds fill (seen (stream P.left P.faults program.old program.new)
+        (stream S.left S.faults input.old input.new) (stream K.taken K.faults output.old output.new)) result }
+{
+    let program = load_program(alloc, program)?;
+    let longest = (program.inputs().len() as u32).max(LINE);
+    let mut lines = Lines::new(alloc, longest)?;
+    let mut session = begin(alloc, &program, fill_of(fill), &mut lines, input)?;
+    obey_lines(alloc, &mut session, &mut lines, input, output)
+}
+
+/// The session of the vector in the first line.
+fn begin<'a, S: Source>(
+    alloc: Global,
+    program: &'a Program,
+    fill: Fill,
+    lines: &mut Lines,
+    input: &mut S,
+) -> Result<Session<'a>, Refusal>
+    requires { lines.old ≡ first_line (longest_of program.now) }
+    ensures begun { IfOk result (λ session. Told (S.left input.old) (S.left input.new) (λ left rest. (now : Option (List ℕ)) →
+        IsDebugging program.now fill left rest now now lines.new (Some session))) }
+    ensures refused { IfErr result (λ r. Told (S.left input.old) (S.left input.new) (λ left rest. (now : Option (List ℕ)) →
+        DebugStops program.now fill left rest now now r)) }
+    ensures program { IfOk result (λ session. session.program ≡ program.now) }
+    ensures longest { lines.new.longest ≡ lines.old.longest }
+    ensures steady { OnOk result (S.faults input.new ≡ S.faults input.old) }
+    ensures kinds { IfErr result (IsOfInput (S.faults input.old) (S.faults input.new)) }
+{
+    match lines.next(input) {
+        Ok(None) => Err(Refusal::Judged(Judgement::Vector(1))),
+        Ok(Some(line)) => {
+            if !fits(program, line) {
+                return Err(Refusal::Judged(Judgement::Vector(1)));
+            }
+            let Ok(session) = session_of(alloc, program, fill, line) else {
+                return Err(Refusal::NoMemory);
+            };
+            Ok(session)
+        }
+        Err(fault) => Err(of_first(fault)),
+    }
+}
+
+/// Whether a line is a vector of the program's inputs.
+fn fits(program: &Program, line: &[u8]) -> bool
+    ensures { result ≡ is_vector (length program.now.inputs) line.now }
+{
+    vector_fits(line, program.inputs().len() as u32)
+}
+
+/// The refusal that the first line comes to.
+fn of_first(fault: LinesFault) -> Refusal
+    ensures { result ≡ debug_refusal None fault }
+{
+    match fault {
+        LinesFault::Fault => Refusal::ReadFault(Origin::Input),
+        LinesFault::Long(line) => Refusal::Judged(Judgement::Vector(line)),
+        LinesFault::TooMany => Refusal::Judged(Judgement::TooManyLines),
+        LinesFault::TooLong => Refusal::TooLong(Origin::Input),
+    }
+}
+
+/// The session of the vector in a line.
+fn session_of<'a>(
+    alloc: Global,
+    program: &'a Program,
+    fill: Fill,
+    line: &[u8],
+) -> Result<Session<'a>, NoMemory>
+    requires { length line.now ≡ length program.now.inputs }
+    ensures { IfOk result (λ session. session ≡ session_of program.now fill (bits_of line.now)) }
+{
+    let vector = bits_of(alloc, line)?;
+    Session::new(alloc, program, &vector, fill)
+}
+
+/// The bits of a line of characters.
+fn bits_of(alloc: Global, line: &[u8]) -> Result<Vec<bool>, NoMemory>
+    ensures { IfOk result (λ bits. bits.items ≡ bits_of line.now) }
+{
+    let mut bits = Vec::new(alloc);
+    for digit in line {
+        bits.push(*digit == b'1')?;
+    }
+    Ok(bits)
+}
+
+/// Obeys each further line.
+fn obey_lines<S: Source, K: Sink>(
+    alloc: Global,
+    session: &mut Session,
+    lines: &mut Lines,
+    input: &mut S,
+    output: &mut K,
+) -> Result<(), Refusal>
+    requires { lines.old.longest ≡ longest_of session.old.program }
+    ensures done { OnOk result (Told (S.left input.old) (S.left input.new) (λ left rest. (fill : Fill) (bytes : List ℕ) (before : Option (List ℕ)) →
+        IsDebugging session.old.program fill bytes left before (K.taken output.old) lines.old (Some session.old) →
+        DebuggedAll session.old.program fill bytes before (K.taken output.new) None)) }
+    ensures refused { IfErr result (λ r. Told (S.left input.old) (S.left input.new) (λ left rest. (fill : Fill) (bytes : List ℕ) (before : Option (List ℕ)) →
+        IsDebugging session.old.program fill bytes left before (K.taken output.old) lines.old (Some session.old) →
+        DebugStops session.old.program fill bytes rest before (K.taken output.new) r)) }
+    ensures input_steady { OnOk result (S.faults input.new ≡ S.faults input.old) }
+    ensures output_steady { OnOk result (K.faults output.new ≡ K.faults output.old) }
+    ensures kinds { IfErr result (IsOfDebug (S.faults input.old) (S.faults input.new) (K.faults output.old) (K.faults output.new)) }
+{
+    let mut more = true;
+    while more {
+        more = obey_line(alloc, session, lines, input, output)?;
+    }
+    Ok(())
+}
+
+/// Obeys the next line and writes its reply. Says whether there may be more lines.
+fn obey_line<S: Source, K: Sink>(
+    alloc: Global,
+    session: &mut Session,
+    lines: &mut Lines,
+    input: &mut S,
+    output: &mut K,
+) -> Result<bool, Refusal>
+    requires { lines.old.longest ≡ longest_of session.old.program }
+    ensures goes { IfOk result (λ more. Told (S.left input.old) (S.left input.new) (λ left rest. (fill : Fill) (bytes : List ℕ) (before : Option (List ℕ)) →
+        IsDebugging session.old.program fill bytes left before (K.taken output.old) lines.old (Some session.old) →
+        DebugsOn more session.old.program fill bytes rest before (K.taken output.new) lines.new (Some session.new))) }
+    ensures refused { IfErr result (λ r. Told (S.left input.old) (S.left input.new) (λ left rest. (fill : Fill) (bytes : List ℕ) (before : Option (List ℕ)) →
+        IsDebugging session.old.program fill bytes left before (K.taken output.old) lines.old (Some session.old) →
+        DebugStops session.old.program fill bytes rest before (K.taken output.new) r)) }
+    ensures program { session.new.program ≡ session.old.program }
+    ensures longest { lines.new.longest ≡ lines.old.longest }
+    ensures further { IfOk result (λ more. more ≡ true → IsFurther lines.old lines.new) }
+    ensures input_steady { OnOk result (S.faults input.new ≡ S.faults input.old) }
+    ensures output_steady { OnOk result (K.faults output.new ≡ K.faults output.old) }
+    ensures kinds { IfErr result (IsOfDebug (S.faults input.old) (S.faults input.new) (K.faults output.old) (K.faults output.new)) }
+{
+    let number = lines.given() + 1;
+    match lines.next(input) {
+        Ok(None) => Ok(false),
+        Ok(Some(line)) => match session.command(line) {
+            Ok(reply) => answer(alloc, output, reply),
+            Err(fault) => Err(of_command(number, fault)),
+        },
+        Err(fault) => Err(of_lines(fault)),
+    }
+}
+
+/// Writes a reply. Says whether the session goes on.
+fn answer<K: Sink>(alloc: Global, output: &mut K, reply: Reply) -> Result<bool, Refusal>
+    ensures goes { IfOk result (λ more. more ≡ not (is_quit reply)) }
+    ensures done { OnOk result (TookAll (K.taken output.old) (K.taken output.new) (reply_line reply)) }
+    ensures steady { OnOk result (K.faults output.new ≡ K.faults output.old) }
+    ensures refused { IfErr result (IsUnwrittenReply (reply_line reply) (K.taken output.old) (K.taken output.new) (K.faults output.old) (K.faults output.new)) }
+{
+    write_reply(alloc, output, &reply)?;
+    Ok(!is_quit(&reply))
+}
+
+/// The refusal that a command's fault comes to, by its line.
+fn of_command(line: u32, fault: DebugFault) -> Refusal
+    ensures { result ≡ command_refusal line fault }
+{
+    match fault {
+        DebugFault::NoMemory => Refusal::NoMemory,
+        fault => Refusal::Judged(Judgement::Command(line, fault)),
+    }
+}
+
+/// The refusal that lines behind the first come to.
+fn of_lines(fault: LinesFault) -> Refusal
+    ensures { (session : SessionView) → result ≡ debug_refusal (Some session) fault }
+{
+    match fault {
+        LinesFault::Fault => Refusal::ReadFault(Origin::Input),
+        LinesFault::Long(line) => Refusal::Judged(Judgement::Command(line, DebugFault::BadCommand)),
+        LinesFault::TooMany => Refusal::Judged(Judgement::TooManyLines),
+        LinesFault::TooLong => Refusal::TooLong(Origin::Input),
+    }
+}
+
+/// Whether a reply ends the session.
+fn is_quit(reply: &Reply) -> bool
+    ensures { result ≡ is_quit reply.now }
+{
+    matches!(reply, Reply::Quit)
+}
+
+/// Writes the line of a reply, by one piece.
+fn write_reply<K: Sink>(alloc: Global, output: &mut K, reply: &Reply) -> Result<(), Refusal>
+    ensures done { OnOk result (TookAll (K.taken output.old) (K.taken output.new) (reply_line reply.now)) }
+    ensures steady { OnOk result (K.faults output.new ≡ K.faults output.old) }
+    ensures refused { IfErr result (IsUnwrittenReply (reply_line reply.now) (K.taken output.old) (K.taken output.new) (K.faults output.old) (K.faults output.new)) }
+{
+    let text = text_of(alloc, reply)?;
+    write_all(output, &text)?;
+    Ok(())
+}
+
+/// The line of a reply.
+fn text_of(alloc: Global, reply: &Reply) -> Result<Vec<u8>, NoMemory>
+    ensures { IfOk result (λ text. text.items ≡ reply_line reply.now) }
+{
+    match reply {
+        Reply::Nothing | Reply::Quit => Ok(Vec::new(alloc)),
+        Reply::At(at) => numbered(alloc, b"at ", *at),
+        Reply::Break { number, at } => break_text(alloc, *number, *at),
+        Reply::Deleted(number) => numbered(alloc, b"deleted ", *number),
+        Reply::Cell(cell, bit) => cell_text(alloc, *cell, *bit),
+        Reply::Show(bits) => bits_text(alloc, bits.list()),
+    }
+}
+
+/// A line of a text and a number.
+fn numbered(alloc: Global, text: &[u8], number: u32) -> Result<Vec<u8>, NoMemory>
+    ensures { IfOk result (λ line. line.items ≡ (text.now ++ decimal number) ++ codes "\n") }
+{
+    let mut line = Vec::new(alloc);
+    let mut digits = Buffer::new();
+    line.extend_from_slice(text)?;
+    line.extend_from_slice(digits.format(number).as_bytes())?;
+    line.push(b'\n')?;
+    Ok(line)
+}
+
+/// The line that tells a breakpoint.
+fn break_text(alloc: Global, number: u64, at: u32) -> Result<Vec<u8>, NoMemory>
+    ensures { IfOk result (λ line. line.items ≡ (((codes "break " ++ decimal number) ++ codes " at ") ++ decimal at) ++ codes "\n") }
+{
+    let mut line = Vec::new(alloc);
+    let mut digits = Buffer::new();
+    line.extend_from_slice(b"break ")?;
+    line.extend_from_slice(digits.format(number).as_bytes())?;
+    line.extend_from_slice(b" at ")?;
+    line.extend_from_slice(digits.format(at).as_bytes())?;
+    line.push(b'\n')?;
+    Ok(line)
+}
+
+/// The line that tells a cell.
+fn cell_text(alloc: Global, cell: u32, bit: bool) -> Result<Vec<u8>, NoMemory>
+    ensures { IfOk result (λ line. line.items ≡ (((codes "cell " ++ decimal cell) ++ codes " ") ++ digit_of bit ∷ []) ++ codes "\n") }
+{
+    let mut line = Vec::new(alloc);
+    let mut digits = Buffer::new();
+    line.extend_from_slice(b"cell ")?;
+    line.extend_from_slice(digits.format(cell).as_bytes())?;
+    line.extend_from_slice(b" ")?;
+    line.push(digit_of(bit))?;
+    line.push(b'\n')?;
+    Ok(line)
+}
+
+/// The line of bits.
+fn bits_text(alloc: Global, bits: &[bool]) -> Result<Vec<u8>, NoMemory>
+    ensures { IfOk result (λ line. line.items ≡ digits_of bits.now ++ codes "\n") }
+{
+    let mut line = Vec::new(alloc);
+    for bit in bits {
+        line.push(digit_of(*bit))?;
+    }
+    line.push(b'\n')?;
+    Ok(line)
+}
+
+/// A bit as a character.
+fn digit_of(bit: bool) -> u8
+    ensures { result ≡ digit_of bit }
+{
+    if bit { b'1' } else { b'0' }
 }

@@ -54,7 +54,7 @@ fn execute_rows<P: Source, S: Source, K: Sink>(
 }
 
 /// The filling that a word of `--fill` names.
-fn fill_of(word: FillWord) -> Fill
+pub(crate) fn fill_of(word: FillWord) -> Fill
     ensures { result ≡ fill_of word }
 {
     match word {

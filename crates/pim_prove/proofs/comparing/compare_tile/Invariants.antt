@@ -1,4 +1,4 @@
-use Rattle.std.proofs.Common.{ℕ, ◌+◌, ◌*◌, None}
+use Rattle.std.proofs.Common.{◌+◌, ◌*◌, None}
 use Rattle.pim_prove.specs.inner.Comparing.{IsFound}
 use Rattle.pim_prove.proofs.comparing.compare_tile.Given as goal
 

@@ -1,4 +1,4 @@
-use Rattle.std.proofs.Common.{◌≡◌, ℕ, ◌+◌, ◌-◌, ◌*◌, None, vec_len}
+use Rattle.std.proofs.Common.{◌≡◌, ◌-◌, ◌*◌, None, vec_len}
 use Rattle.pim_prove.specs.inner.Comparing.{IsFound}
 use Rattle.pim_prove.proofs.comparing.first_difference.Given as goal
 

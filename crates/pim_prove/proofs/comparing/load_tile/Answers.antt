@@ -1,4 +1,4 @@
-use Rattle.std.proofs.Common.{◌≡◌, ◌<◌, ◌+◌, ◌*◌, ◌-◌, suc, length, ◌∙◌, arith}
+use Rattle.std.proofs.Common.{◌≡◌, ◌<◌, ◌+◌, ◌*◌, ◌-◌, suc, ◌∙◌, arith}
 use Rattle.pim_lanes.specs.Banks.{row_of}
 use Rattle.pim_io.specs.Lanes.{lane}
 use Rattle.pim_prove.proofs.Tiles.{loaded_more}

@@ -1,4 +1,4 @@
-use Rattle.std.proofs.Common.{◌≡◌, ◌<◌, ◌+◌, ◌*◌, arith}
+use Rattle.std.proofs.Common.{◌<◌, ◌+◌, ◌*◌, arith}
 use Rattle.pim_aig.specs.Values.{literal_value}
 use Rattle.pim_isa.specs.Steps.{bit}
 use Rattle.pim_lanes.specs.Banks.{row_of}

@@ -1,4 +1,4 @@
-use Rattle.std.proofs.Common.{◌≡◌, ◌≤◌, ap, sym, ◌∙◌, arith, subst, ℕ, ◌+◌, ◌*◌}
+use Rattle.std.proofs.Common.{◌≤◌, ap, sym, ◌∙◌, arith, ◌+◌, ◌*◌}
 use Rattle.pim_io.specs.Lanes.{is_set}
 use Rattle.pim_prove.proofs.BitLemmas.{high_digit, pattern_0, pattern_1, pattern_2, pattern_3, pattern_4, pattern_5}
 use Rattle.pim_prove.proofs.digits.digit_word.Goals as goal

@@ -1,4 +1,4 @@
-use Rattle.std.proofs.Common.{◌≤◌, length, arith}
+use Rattle.std.proofs.Common.{length, arith}
 use Rattle.pim_prove.proofs.Lanes.{column_filled}
 use Rattle.pim_prove.proofs.digits.fill_digits.Goals as goal
 

@@ -1,4 +1,4 @@
-use Rattle.std.proofs.Common.{◌≡◌, ◌^◌, None, Some, subst, sym}
+use Rattle.std.proofs.Common.{◌^◌, subst, sym}
 use Rattle.pim_prove.specs.inner.Comparing.{IsFound}
 use Rattle.pim_prove.proofs.Refusals.{none_of_not, same_ports}
 use Rattle.pim_prove.proofs.Verdicts.{Compared, different, equal}

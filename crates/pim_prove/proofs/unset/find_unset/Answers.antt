@@ -1,8 +1,8 @@
-use Rattle.std.proofs.Common.{◌≡◌, ap, sym, length, false, replicate}
+use Rattle.std.proofs.Common.{ap, sym, false, replicate}
 use Rattle.std.proofs.lemmas.List.{length-replicate}
 use Rattle.pim_isa.specs.Sound.{cells_of}
 use Rattle.pim_isa.specs.Touches.{writes}
-use Rattle.pim_prove.proofs.Marking.{length_marked, walk_begins, walk_found, walk_more, writes_within}
+use Rattle.pim_prove.proofs.Marking.{length_marked, walk_begins, walk_more, writes_within}
 use Rattle.pim_prove.proofs.unset.find_unset.Goals as goal
 
 pub loop-place-init : goal.loop-place-init

@@ -42,5 +42,5 @@ compile-fine target level budget file bytes fine = record {
   file_fits = tt;
   input_fits = fine.fits;
   file_passes = λ j h. judged target level budget bytes j fine (h bytes);
-  input_passes = λ j h. judged target level budget bytes j fine h;
+  input_passes = λ j h. inr (judged target level budget bytes j fine h);
 }

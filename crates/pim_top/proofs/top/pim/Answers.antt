@@ -1,4 +1,5 @@
-use Rattle.std.proofs.Common.{◌∙◌, ap, sym, inl, inr}
+use Rattle.std.proofs.Common.{subst, ◌∙◌, ap, sym, inl, inr}
+use Rattle.pim_top.specs.Answers.{EndsFine}
 use Rattle.pim_top.proofs.Clauses.{call-accepted, call-apart, call-decided, call-done, call-file, call-memory, call-nothing, call-plain, call-read, call-usage, call-write, done-only}
 use Rattle.pim_top.proofs.top.pim.Goals as goal
 
@@ -52,7 +53,7 @@ returns-clause-decided g c = λ command file bytes said accepted told_file told_
 pub returns-clause-complete : goal.returns-clause-complete
 returns-clause-complete g c = λ command file bytes said accepted told_file told_bytes calm fine.
     elim ((c.obey-answer.ensures.complete command said accepted).ends file bytes told_file told_bytes calm fine) [
-      | inl d ↦ inl (c.status_of.ensures ∙ d)
+      | inl d ↦ inl (subst (EndsFine command) (sym c.status_of.ensures) d)
       | inr m ↦ inr (c.status_of.ensures ∙ m)
     ]
 

@@ -25,6 +25,11 @@ returns-in-explain-clause-answer c =
     file_answer (codes "explain") (map string_bytes c.args.words.now) (map string_bytes c.args.others.now) c.args.name.now c.read_without_options-in-explain.result (c.requires.named, c.in-explain.is)
     commands.Explain refl refl c.requires.filed c.read_without_options-in-explain.ensures
 
+pub returns-in-prove-clause-answer : goal.returns-in-prove-clause-answer
+returns-in-prove-clause-answer c =
+    file_answer (codes "prove") (map string_bytes c.args.words.now) (map string_bytes c.args.others.now) c.args.name.now c.read_without_options-in-prove.result (c.requires.named, c.in-prove.is)
+    commands.Prove refl refl c.requires.filed c.read_without_options-in-prove.ensures
+
 pub returns-in-asm-clause-answer : goal.returns-in-asm-clause-answer
 returns-in-asm-clause-answer c =
     input_answer (codes "asm") (map string_bytes c.args.words.now) (map string_bytes c.args.others.now) c.args.name.now c.read_without_options-in-asm.result (c.requires.named, c.in-asm.is)

@@ -1,4 +1,3 @@
-use Rattle.std.proofs.Common.{◌≡◌, ap, sym, ◌∙◌, arith}
 use Rattle.std.proofs.lemmas.Bool.{iff_false}
 use Rattle.pim_prove.proofs.Lanes.{literal_complement, literal_plain}
 use Rattle.pim_prove.proofs.values.Values.literal.Goals as goal

@@ -1,4 +1,4 @@
-use Rattle.std.proofs.Common.{◌≡◌, List, ℕ, ◌++◌, [], ◌∷◌, ap, bit_and, ◌∙◌}
+use Rattle.std.proofs.Common.{List, ℕ, ◌++◌, [], ◌∷◌, ap, bit_and, ◌∙◌}
 use Rattle.pim_prove.proofs.Lanes.{ands_more}
 use Rattle.pim_prove.proofs.values.Values.push_ands.Goals as goal
 

@@ -1,0 +1,10 @@
+//! An adder to measure by: its netlist, and rows that are drawn by chance with the sums that are right.
+#![tactic(auto)]
+
+mod drawn;
+mod netlist;
+#[cfg(test)]
+mod tests;
+
+pub use drawn::Rows;
+pub use netlist::{MAX_BITS, adder};

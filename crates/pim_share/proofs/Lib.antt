@@ -1,0 +1,5 @@
+pub mod Moves
+pub mod Frames
+pub mod Laying
+pub mod Shared
+pub mod Cuts

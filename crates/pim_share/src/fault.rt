@@ -1,0 +1,60 @@
+use pim_file::FileFault;
+use pim_io::NoMemory;
+use std::alloc::AllocFailed;
+use thiserror::Error;
+
+/// Why a file is no programs one after another.
+#[derive(Clone, Copy, Debug, PartialEq, Eq, Error)]
+pub enum ManyFault {
+    /// This piece, counted from 0, is the first that is no program file, and why.
+    #[error("a piece is no program")]
+    Part { part: u32, fault: FileFault },
+    /// There was no memory.
+    #[error("no memory")]
+    NoMemory,
+}
+
+/// Why programs can't share a row. Parts and turns are counted from 0.
+#[derive(Clone, Copy, Debug, PartialEq, Eq, Error)]
+pub enum ShareFault {
+    /// This part is the first whose target is not that of the first part.
+    #[error("a part is for another target")]
+    OtherTarget(u32),
+    /// The parts have more cells in all than the row.
+    #[error("there are too few cells")]
+    TooFewCells {
+        /// How many cells they have.
+        needed: u64,
+    },
+    /// This turn is the first that names no part, or a part without instructions left.
+    #[error("a turn names no instruction")]
+    Turn(u32),
+    /// This part is the first with instructions left behind the last turn.
+    #[error("turns of a part are missing")]
+    Missing(u32),
+    /// There was no memory.
+    #[error("no memory")]
+    NoMemory,
+}
+
+impl<T: Drop> From<AllocFailed<T>> for ManyFault {
+    ghost use Rattle.std.specs.Prelude.{◌≡◌};
+    ghost use Rattle.pim_share.specs.declared.fault.ManyFault.TheVariants as faults;
+
+    ghost from_gives = { λ _ fault. fault ≡ faults.NoMemory };
+
+    fn from(_error: AllocFailed<T>) -> ManyFault {
+        ManyFault::NoMemory
+    }
+}
+
+impl From<NoMemory> for ShareFault {
+    ghost use Rattle.std.specs.Prelude.{◌≡◌};
+    ghost use Rattle.pim_share.specs.declared.fault.ShareFault.TheVariants as faults;
+
+    ghost from_gives = { λ _ fault. fault ≡ faults.NoMemory };
+
+    fn from(_error: NoMemory) -> ShareFault {
+        ShareFault::NoMemory
+    }
+}

@@ -1,0 +1,2 @@
+-- Inner: definitions that private functions cite, and no public contract.
+pub mod Pairs
