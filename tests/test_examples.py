@@ -100,6 +100,23 @@ def test_the_gray_code(pim, folder):
     computes(pim, folder, "gray3.blif", gray)
 
 
+def test_what_another_simulator_computed(pim, folder):
+    """Each netlist with vectors and results beside it gives those results: Icarus Verilog computed them from its module.
+
+    Its programs have as few cells as it needs, and a thousand, for each machine, and begin with zeros and with ones.
+    """
+    modules = sorted(path.stem for path in (EXAMPLES / "verilog").glob("*.v"))
+    equal("the modules with results", modules, sorted(path.stem for path in EXAMPLES.glob("*.results")))
+    for module in modules:
+        netlist, = [name for name in netlists() if name.startswith(f"{module}.")]
+        vectors = (EXAMPLES / f"{module}.vectors").read_bytes()
+        results = (EXAMPLES / f"{module}.results").read_bytes()
+        for target, cells in ("magic", needed()[netlist]), ("magic", "1000"), ("plim", "1000"):
+            (folder / "program.pim").write_bytes(compiled(pim, netlist, cells, target))
+            for fill in "zeros", "ones":
+                gives(pim("run", folder / "program.pim", "--fill", fill, stdin=vectors), results)
+
+
 def test_the_cells_that_the_examples_need(pim, folder):
     """Each netlist of the table compiles in as many cells as the table says, and in one less it does not."""
     equal("the netlists of the table", set(needed()), netlists())
