@@ -1,5 +1,5 @@
 -- What follows of how `debug` ends.
-use Rattle.std.proofs.Common.{◌≡◌, ◌⊎◌, ℕ, ◌≤◌, List, [], ◌++◌, Option, None, Some, Result, Ok, Err, length, inl, inr, refl}
+use Rattle.std.proofs.Common.{◌≡◌, ◌⊎◌, ℕ, ◌≤◌, List, ◌++◌, Option, None, Some, Result, Ok, Err, length, inl, inr, refl}
 use Rattle.pim_io.specs.Outside.{Rose, Told}
 use Rattle.pim_io.specs.declared.limits.TheConstants.{MAX_INPUT, MAX_PROGRAM}
 use Rattle.pim_isa.specs.Programs.{ProgramView}

@@ -1,5 +1,5 @@
 -- A program file and lines that `debug` takes are not refused.
-use Rattle.std.proofs.Common.{◌≡◌, ◌<◌, ℕ, List, Option, None, Some, Result, Ok, Err, inl, inr, sym, ap, ◌∙◌, subst, arith}
+use Rattle.std.proofs.Common.{◌≡◌, ℕ, List, None, Result, Ok, Err, inl, inr, sym, ap, ◌∙◌, subst, arith}
 use Rattle.pim_file.specs.declared.fault.FileFault.{FileFault}
 use Rattle.pim_isa.specs.Programs.{ProgramView}
 use Rattle.pim_words.specs.declared.command.Command.TheVariants as commands

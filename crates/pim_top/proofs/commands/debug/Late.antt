@@ -13,7 +13,6 @@ use Rattle.pim_top.specs.Rows.{IsLoaded}
 use Rattle.pim_top.specs.Streams.{Seen, Stream}
 use Rattle.pim_top.specs.commands.Debug.{DebugEnds, LinesEnd}
 use Rattle.pim_top.specs.commands.Run.{fill_of}
-use Rattle.pim_top.specs.declared.judgement.Judgement.{Judgement}
 use Rattle.pim_top.specs.declared.judgement.Judgement.TheVariants as judgement
 use Rattle.pim_top.specs.declared.refusal.Origin.TheVariants as origin
 use Rattle.pim_top.specs.declared.refusal.Refusal.{Refusal}

@@ -1,8 +1,6 @@
 -- How the lines of a debugger's input go on, line by line.
-use Rattle.std.proofs.Common.{◌≡◌, ◌≢◌, ℕ, ◌+◌, ◌<◌, ◌≤◌, ◌⊎◌, ◌&&◌, ◌||◌, not, Bool, true, false, cond, eqb, leb, ltb, List, [], ◌∷◌, ◌++◌, length, drop, Option, Some, None, Result, Ok, Err, inl, inr, refl, sym, ap, ◌∙◌, subst, arith, append_assoc, append-nil}
-use Rattle.std.specs.Borrow.{Bor}
+use Rattle.std.proofs.Common.{◌≡◌, ◌≢◌, ℕ, ◌+◌, ◌<◌, ◌≤◌, ◌⊎◌, ◌&&◌, ◌||◌, not, Bool, true, false, cond, eqb, ltb, List, [], ◌∷◌, ◌++◌, length, drop, Option, Some, None, Ok, Err, inl, inr, refl, sym, ap, ◌∙◌, subst, arith, append_assoc, append-nil}
 use Rattle.std.specs.List.{list_all}
-use Rattle.std.proofs.lemmas.Bool.{cases_lt, lt-ltb, le-ltb}
 use Rattle.std.proofs.lemmas.Bool.Decides.{nat_tests}
 use Rattle.pim_debug.specs.Answers.{AnswersLine, refusal_of}
 use Rattle.pim_debug.specs.Commands.{command_of}
@@ -14,25 +12,24 @@ use Rattle.pim_debug.specs.declared.fault.DebugFault.TheVariants as fault
 use Rattle.pim_debug.specs.declared.reply.Reply.{Reply}
 use Rattle.pim_debug.specs.declared.reply.Reply.TheVariants as reply
 use Rattle.pim_io.specs.Bits.{bits_of}
-use Rattle.pim_io.specs.Outside.{Told, TookAll, TookFirst}
+use Rattle.pim_io.specs.Outside.{TookAll, TookFirst}
 use Rattle.pim_io.specs.declared.limits.TheConstants.{MAX_INPUT}
 use Rattle.pim_isa.specs.Programs.{ProgramView}
 use Rattle.pim_isa.specs.declared.target.Fill.{Fill}
 use Rattle.pim_vectors.specs.Lines.{line_len, lines}
-use Rattle.pim_vectors.specs.Next.{IsAfter, LinesView, next_of}
+use Rattle.pim_vectors.specs.Next.{LinesView}
 use Rattle.pim_vectors.specs.declared.fault.LinesFault.{LinesFault}
 use Rattle.pim_vectors.specs.declared.fault.LinesFault.TheVariants as faults
 use Rattle.pim_vectors.specs.declared.limits.TheConstants.{MAX_LINES}
-use Rattle.pim_top.specs.Debugging.{DebuggedAll, DebuggedFront, DebuggedPart, DebuggedShort, Runs, Takes, command_end, end_at, last_end, line_end, longest_of, reply_line, session_of, words_end}
+use Rattle.pim_top.specs.Debugging.{DebuggedAll, DebuggedFront, DebuggedPart, Runs, Takes, command_end, last_end, line_end, longest_of, reply_line, session_of, words_end}
 use Rattle.pim_top.specs.Judged.{behind_lines, is_vector, judged_lines}
 use Rattle.pim_top.specs.declared.judgement.Judgement.TheVariants as judgement
 use Rattle.pim_top.specs.declared.refusal.Origin.TheVariants as origin
 use Rattle.pim_top.specs.declared.refusal.Refusal.{Refusal}
 use Rattle.pim_top.specs.declared.refusal.Refusal.TheVariants as refusal
-use Rattle.pim_top.specs.inner.Sessions.{DebugStops, DebugsOn, IsAtLine, IsDebugging, command_refusal, debug_refusal, is_quit}
+use Rattle.pim_top.specs.inner.Sessions.{DebugStops, DebugsOn, IsDebugging, command_refusal, debug_refusal, is_quit}
 use Rattle.pim_top.specs.inner.Standing.{first_line}
 use Rattle.pim_top.proofs.LineStates.{Says, StandsNext, judged-front, line-more, line-next, long-next, many-next, none-next, over-next}
-use Rattle.pim_top.proofs.WalkStates.{told-both, told-map}
 use Rattle.pim_top.proofs.WalkSteps.{then-first, took-both}
 
 -- ---- one line more

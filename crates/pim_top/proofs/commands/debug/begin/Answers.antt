@@ -1,8 +1,7 @@
-use Rattle.std.proofs.Common.{◌≡◌, ◌∙◌, sym, ap, subst, List, ℕ, Bool, Option, Some, None, Result, Ok, length}
+use Rattle.std.proofs.Common.{◌∙◌, sym, ap, subst, List, ℕ, Option, Some, None, Ok}
 use Rattle.std.specs.Borrow.{Bor}
 use Rattle.pim_debug.specs.States.{SessionView}
 use Rattle.pim_io.specs.Outside.{Told}
-use Rattle.pim_top.specs.Judged.{is_vector}
 use Rattle.pim_top.specs.declared.refusal.Refusal.{Refusal}
 use Rattle.pim_top.specs.inner.Sessions.{DebugStops, IsDebugging, IsOfInput}
 use Rattle.pim_top.proofs.WalkStates.{after-same}

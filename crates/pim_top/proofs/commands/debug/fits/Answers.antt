@@ -1,4 +1,4 @@
-use Rattle.std.proofs.Common.{◌≡◌, ℕ, Bool, true, false, List, length, sym, refl, subst, arith}
+use Rattle.std.proofs.Common.{◌≡◌, ℕ, Bool, true, false, List, length, sym, refl}
 use Rattle.std.specs.Prelude.{◌↔◌}
 use Rattle.pim_vectors.specs.Tiles.{IsVector}
 use Rattle.pim_top.specs.Judged.{is_vector}

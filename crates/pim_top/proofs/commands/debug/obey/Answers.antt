@@ -1,4 +1,4 @@
-use Rattle.std.proofs.Common.{◌≡◌, List, ℕ, Option, Err, inr, refl, subst}
+use Rattle.std.proofs.Common.{Err, inr, subst}
 use Rattle.std.proofs.lemmas.Result.{err_from_is_err_and}
 use Rattle.pim_isa.specs.declared.target.Fill.{Fill}
 use Rattle.pim_top.specs.Streams.{Stream, stream}

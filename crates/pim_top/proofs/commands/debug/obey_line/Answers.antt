@@ -1,9 +1,8 @@
-use Rattle.std.proofs.Common.{◌≡◌, ◌∙◌, sym, ap, subst, List, ℕ, ◌+◌, Bool, Option, Some, None, Result, Ok}
+use Rattle.std.proofs.Common.{◌∙◌, sym, ap, subst, List, ℕ, ◌+◌, Option, Ok}
 use Rattle.std.specs.Borrow.{Bor}
-use Rattle.pim_debug.specs.States.{SessionView}
 use Rattle.pim_io.specs.Outside.{Told}
 use Rattle.pim_top.specs.declared.refusal.Refusal.{Refusal}
-use Rattle.pim_top.specs.inner.Sessions.{DebugStops, DebugsOn, IsDebugging, IsOfDebug}
+use Rattle.pim_top.specs.inner.Sessions.{DebugStops, IsOfDebug}
 use Rattle.pim_top.proofs.WalkStates.{after-same}
 use Rattle.pim_top.proofs.commands.debug.Told.{From, answered-goes, answered-kinds, answered-refused, line-kinds, line-none, line-refused, line-stops}
 use Rattle.pim_top.proofs.commands.debug.obey_line.Goals as goal

@@ -1,6 +1,5 @@
-use Rattle.std.proofs.Common.{◌≡◌, ◌∙◌, List, ℕ, Bool, Option, Some, refl, subst, sym}
+use Rattle.std.proofs.Common.{◌∙◌, refl}
 use Rattle.std.proofs.lemmas.Result.{err_from_is_err_and}
-use Rattle.pim_isa.specs.Programs.{ProgramView}
 use Rattle.pim_top.proofs.commands.debug.Told.{lines-start, step-done, step-off, step-on}
 use Rattle.pim_top.proofs.commands.debug.obey_lines.Goals as goal
 
