@@ -10,6 +10,8 @@ mod case;
 #[cfg(test)]
 mod compile;
 #[cfg(test)]
+mod debug;
+#[cfg(test)]
 mod memory;
 #[cfg(test)]
 mod outside;
