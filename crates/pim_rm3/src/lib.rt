@@ -6,7 +6,9 @@ mod cost;
 mod emit;
 mod gate;
 mod gate_graph;
+mod loads;
 mod over;
+mod ports;
 mod refusal;
 mod schedule;
 #[cfg(test)]
