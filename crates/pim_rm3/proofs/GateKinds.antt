@@ -44,7 +44,7 @@ kind_of g l = elim (eqb_tells (l / 2) 0) [
 pub kids_at : (g : AigView) (l : ℕ) → l < 2 * nodes g → kids_of (gate_graph g) l ≡ ands_read g (gate_of g l)
 kids_at g l h = get_or-map-range_with_len (λ k. ands_read g (gate_of g k)) 0 (2 * nodes g) l l [] h (omega arith)
 
-or_true : (b c : Bool) → c ≡ true → (b || c) ≡ true
+pub or_true : (b c : Bool) → c ≡ true → (b || c) ≡ true
 or_true true c h = refl
 or_true false c h = h
 

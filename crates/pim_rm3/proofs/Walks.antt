@@ -35,12 +35,12 @@ all_has P (y ∷ ys) x all h = elim (eqb_tells y x) [
   | inr f ↦ all_has P ys x (λ k d l. all (suc k) d (omega arith)) (sym (ap (λ (b : Bool). b || has ys x) f.0) ∙ h)
 ]
 
-or_true : (b c : Bool) → c ≡ true → (b || c) ≡ true
+pub or_true : (b c : Bool) → c ≡ true → (b || c) ≡ true
 or_true true c h = refl
 or_true false c h = h
 
 -- a gate up to a place is at that place or before it
-split : (xs : List ℕ) (x y : ℕ) → has (xs ++ x ∷ []) y ≡ true → (has xs y ≡ true) ⊎ (x ≡ y)
+pub split : (xs : List ℕ) (x y : ℕ) → has (xs ++ x ∷ []) y ≡ true → (has xs y ≡ true) ⊎ (x ≡ y)
 split [] x y h = elim (eqb_tells x y) [
   | inl t ↦ inr t.1
   | inr f ↦ absurd (false≢true (sym (ap (λ (b : Bool). b || false) f.0) ∙ h))
@@ -96,7 +96,7 @@ cell_gate ins cells e h =
 pub none_some : (o : Option ℕ) (c : ℕ) → o ≡ None → o ≡ Some c → ⊥
 none_some o c n e = cc
 
-last : (xs : List ℕ) (x : ℕ) → has (xs ++ x ∷ []) x ≡ true
+pub last : (xs : List ℕ) (x : ℕ) → has (xs ++ x ∷ []) x ≡ true
 last [] x = let e : eqb x x ≡ true = grind (arith, nat_tests) in ap (λ (b : Bool). b || false) e
 last (y ∷ ys) x = or_true (eqb y x) (has (ys ++ x ∷ []) x) (last ys x)
 
@@ -320,7 +320,7 @@ gate_gives g a bits m p s len holds h (meet even above is) =
           ]
     ]
 
-or_more : (x y r : Bool) → (y || r) ≡ true → ((x || y) || r) ≡ true
+pub or_more : (x y r : Bool) → (y || r) ≡ true → ((x || y) || r) ≡ true
 or_more true y r h = refl
 or_more false y r h = h
 
@@ -381,7 +381,7 @@ all_hold g a bits m s laws len wide is =
     let M : List ℕ → Type 0 = λ ys. Holds g a bits (length xs) (exec (flat_map (instrs_at g a.cells) ys) m) in
     subst M (take-length xs) (walk_holds g a bits m (length xs) s len (omega arith) (start_holds g a bits m laws wide is))
 
-has_front : (xs ys : List ℕ) (k : ℕ) → has xs k ≡ true → has (xs ++ ys) k ≡ true
+pub has_front : (xs ys : List ℕ) (k : ℕ) → has xs k ≡ true → has (xs ++ ys) k ≡ true
 has_front [] ys k h = absurd (false≢true h)
 has_front (x ∷ xs) ys k h = elim (bool_cases (eqb x k)) [
   | inl t ↦ ap (λ (b : Bool). b || has (xs ++ ys) k) t

@@ -121,4 +121,3 @@ pub(crate) fn add_gates(
     }
     Ok(())
 }
-

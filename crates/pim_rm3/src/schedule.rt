@@ -145,7 +145,13 @@ fn drafted(alloc: Global, aig: &Aig, ports: &Ports, plan: &Plan) -> Result<Progr
     let cells = plan.allotment.cells();
     let mut draft = ProgramDraft::new(alloc, Target::Plim, plan.allotment.width());
     add_inputs(&mut draft, ports.inputs())?;
-    add_outputs(&mut draft, aig.inputs(), cells, aig.outputs(), ports.outputs())?;
+    add_outputs(
+        &mut draft,
+        aig.inputs(),
+        cells,
+        aig.outputs(),
+        ports.outputs(),
+    )?;
     add_gates(&mut draft, aig, cells, &plan.over, &plan.order)?;
     Ok(draft)
 }
