@@ -7,7 +7,7 @@ ghost use Rattle.pim_blif.specs.inner.Readers.{words_used};
 use crate::cover::{add_row, empty_cover};
 use crate::fault::BlifFault;
 use crate::inputs::InputMarks;
-use crate::signals::{signal, signals};
+use crate::signals::{put_signals, signal};
 use crate::table::NameTable;
 use crate::word::Word;
 use pim_io::NoMemory;
@@ -27,6 +27,7 @@ pub(crate) struct Reader<'a> {
     outputs: u32,
     draft: Draft,
     cover: Option<Equation>,
+    signals: Vec<u32>,
     cells: Vec<Bit3>,
     started: bool,
     ended: bool,
@@ -62,6 +63,7 @@ impl<'a> Reader<'a> {
             outputs: 0,
             draft: Draft::new(alloc),
             cover: None,
+            signals: Vec::new(alloc),
             cells: Vec::new(alloc),
             started: false,
             ended: false,
@@ -129,8 +131,8 @@ impl<'a> Reader<'a> {
         ensures exact { Gives BlifFault.NoMemory (λ _. self.new) result (with_cover line self.old names.now) }
         ensures used { self.old.cover ≡ None → OnOk result (words_used self.new ≤ words_used self.old + length names.now + 1) }
     {
-        let signals = signals(self.alloc, &mut self.names, names)?;
-        let Some(cover) = empty_cover(self.alloc, signals) else {
+        put_signals(&mut self.names, names, &mut self.signals)?;
+        let Some(cover) = empty_cover(self.alloc, &self.signals)? else {
             return Err(BlifFault::Syntax(line));
         };
         self.cover = Some(cover);

@@ -6,7 +6,7 @@ use Rattle.pim_aig.specs.Faults.{Says}
 use Rattle.pim_aig.specs.Graph.{nodes}
 use Rattle.pim_aig.specs.declared.literal.Lit.{Lit}
 use Rattle.pim_aig.proofs.Rows.{rows_step, rows_fault, All-IsOfFirst-push}
-use Rattle.pim_aig.proofs.cover.rows.Goals as goal
+use Rattle.pim_aig.proofs.cover.put_rows.Goals as goal
 
 pub returns-in_err-chain-clause-fault : goal.returns-in_err-chain-clause-fault
 returns-in_err-chain-clause-fault c =

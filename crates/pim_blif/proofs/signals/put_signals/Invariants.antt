@@ -2,7 +2,7 @@ use Rattle.std.proofs.Common.{◌≡◌, ◌<◌, All, length, drop}
 use Rattle.pim_net.specs.declared.limits.TheConstants.{MAX_SIGNALS}
 use Rattle.pim_blif.specs.inner.Judging.{numbered}
 use Rattle.pim_blif.proofs.Readings.{with_numbers}
-use Rattle.pim_blif.proofs.signals.signals.Given as goal
+use Rattle.pim_blif.proofs.signals.put_signals.Given as goal
 
 abbrev pub invariant-loop-word : goal.invariant-loop-word
 invariant-loop-word l = record {

@@ -3,7 +3,7 @@ use Rattle.pim_aig.specs.Chains.{rows_from}
 use Rattle.pim_net.specs.Tables.{values as literals_of}
 use Rattle.pim_aig.specs.Graph.{IsOfFirst, nodes}
 use Rattle.pim_aig.specs.inner.Growing.{Grows}
-use Rattle.pim_aig.proofs.cover.rows.Given as goal
+use Rattle.pim_aig.proofs.cover.put_rows.Given as goal
 
 abbrev pub invariant-loop-k : goal.invariant-loop-k
 invariant-loop-k l = record {
