@@ -1,4 +1,4 @@
-ghost use Rattle.std.specs.Prelude.{◌≡◌, ◌+◌, ◌<◌, ◌≤◌, [], None, length, OnOk, IfSome};
+ghost use Rattle.std.specs.Prelude.{◌≡◌, ◌+◌, ◌<◌, ◌≤◌, [], None, length, IfOk, OnOk, IfSome};
 ghost use Rattle.pim_io.specs.Readings.{Gives};
 ghost use Rattle.pim_net.specs.declared.limits.TheConstants.{MAX_COLUMNS, MAX_EQUATIONS, MAX_ROWS};
 ghost use Rattle.pim_blif.specs.inner.Judging.{known_from, with_input, with_output, each, with_cover, row_of, without_cover};
@@ -51,14 +51,14 @@ impl<'a> Model for Reader<'a> {
 }
 
 impl<'a> Reader<'a> {
-    /// A reader that stands before the first statement. It takes no memory.
+    /// A reader that stands before the first statement of a file of this length.
     #[tactic(auto, using(crate::proofs::Marks::marks_none))]
-    pub(crate) fn new(alloc: Global) -> Reader<'a>
-        ensures { result ≡ known_from [] }
+    pub(crate) fn new(alloc: Global, file_len: usize) -> Result<Reader<'a>, NoMemory>
+        ensures { IfOk result (λ k. k ≡ known_from []) }
     {
-        Reader {
+        Ok(Reader {
             alloc,
-            names: NameTable::new(alloc),
+            names: NameTable::new(alloc, file_len)?,
             marks: InputMarks::new(alloc),
             outputs: 0,
             draft: Draft::new(alloc),
@@ -67,7 +67,7 @@ impl<'a> Reader<'a> {
             cells: Vec::new(alloc),
             started: false,
             ended: false,
-        }
+        })
     }
 
     /// Takes up an input of a name, which is not one already.
