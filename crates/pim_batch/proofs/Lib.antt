@@ -1,3 +1,4 @@
 pub mod RowLemmas
+pub mod PackingLemmas
 pub mod BatchLemmas
 mod Examples

@@ -4,10 +4,13 @@
 
 mod batch;
 mod executor;
+mod limits;
 mod lines;
+mod packed;
 mod rows;
 #[cfg(test)]
 mod tests;
 
 pub use batch::Batch;
 pub use executor::Executor;
+pub use limits::{LARGE_WORDS, MAX_LARGE, SMALL_WORDS};
