@@ -1,10 +1,24 @@
 use Rattle.pim_compile.specs.Choices.{IsChosen}
+use Rattle.pim_compile.specs.Computes.{Computes}
 use Rattle.pim_compile.specs.Cycles.{IsQuick, TakesCycles}
 use Rattle.pim_compile.specs.Networks.{FollowsSome}
 use Rattle.pim_compile.specs.Refusals.{IsAccepted}
 use Rattle.pim_compile.specs.Targets.{OnMagic, OnPlim}
 use Rattle.pim_compile.proofs.Composed.{IsFlat, compiled_gives}
 use Rattle.pim_compile.proofs.compiling.compile.Goals as goal
+
+pub returns-clause-computes : goal.returns-clause-computes
+returns-clause-computes c =
+    let f : IsFlat c.args.net.now c.in_ok-aig.aig c.in_ok-ports.ports = record {
+      graph = c.in_ok-aig.ensures.flat;
+      values = c.in_ok-aig.ensures.values;
+      counted = c.in_ok-aig.ensures.counted;
+      few = c.in_ok-aig.ensures.accepted;
+      inputs = c.in_ok-ports.ensures.inputs;
+      outputs = c.in_ok-ports.ensures.outputs;
+      size = c.in_ok-ports.ensures.as_many_inputs;
+    } in
+    compiled_gives c.args.net.now c.in_ok-aig.aig c.in_ok-ports.ports c.args.target c.args.level c.args.budget (λ p. Computes p c.args.net.now) c.scheduled.result (λ p h. h.computes) f c.scheduled.ensures.fits
 
 pub returns-clause-follows : goal.returns-clause-follows
 returns-clause-follows c =
