@@ -1,3 +1,5 @@
 pub mod RowLemmas
 pub mod BatchLemmas
 mod Examples
+pub mod MajorityLemmas
+pub mod PassLemmas

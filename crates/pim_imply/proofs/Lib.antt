@@ -2,6 +2,7 @@ pub mod Finished
 pub mod FitLemmas
 pub mod GateReads
 pub mod Literals
+pub mod Netlists
 pub mod OneText
 pub mod Orders
 pub mod ReadBack
