@@ -69,7 +69,8 @@ fn lines_that_have_no_room_in_the_chunk_are_written_next(rt: HostRuntime) -> Res
     let mut chunk = [0; 5];
     // a third call of the sink would fail
     let mut sink = MemSink::new(rt.alloc(), 6, 6, &[2])?;
-    lines::write_results(&results, 3, 2, &mut chunk, &mut sink)?;
+    let mut stage = Tile::new(rt.alloc(), 1, 1)?;
+    lines::write_results(&results, &mut stage, 3, 2, &mut chunk, &mut sink)?;
     assert_eq!(rt; sink.bytes(), b"0\n1\n0\n".as_slice());
     Ok(())
 }
