@@ -1,3 +1,4 @@
+mod Examples
 pub mod Finished
 pub mod FitLemmas
 pub mod GateReads
@@ -6,6 +7,7 @@ pub mod Netlists
 pub mod OneText
 pub mod Orders
 pub mod ReadBack
+mod ReadExamples
 pub mod Rows
 pub mod TextLaws
 pub mod TextLemmas

@@ -1,5 +1,5 @@
 -- The program of a netlist's flat graph is one of the netlist.
-use Rattle.std.proofs.Common.{◌≡◌, Bool, List, ℕ, length, map, sym, ◌∙◌, subst}
+use Rattle.std.proofs.Common.{◌≡◌, ◌<◌, Bool, List, ℕ, length, map, sym, ◌∙◌, subst}
 use Rattle.pim_aig.specs.Graph.{AigView}
 use Rattle.pim_aig.specs.Values.{aval}
 use Rattle.pim_isa.specs.PortLists.{labels_of}
@@ -9,6 +9,9 @@ use Rattle.pim_net.specs.Values.{outs}
 use Rattle.pim_imply.specs.Compiled.{IComputes}
 use Rattle.pim_imply.specs.Programs.{ImplyView}
 use Rattle.pim_imply.specs.Realizes.{IRealizes}
+use Rattle.pim_imply.specs.Refusals.{IsRefusalFor}
+use Rattle.pim_imply.specs.declared.refusal.Refusal.{Refusal}
+use Rattle.pim_imply.specs.declared.refusal.Refusal.TheVariants.{TooFewCells}
 
 -- what is realized, where two functions give the same
 realizes_same : (p : ImplyView) (labels : List (List ℕ)) (f h : List Bool → List Bool) → ((bits : List Bool) → length bits ≡ length labels → f bits ≡ h bits) → IRealizes p labels f → IRealizes p labels h
@@ -28,3 +31,7 @@ computes p n g ports inputs outputs many values realizes labels = record {
       (realizes_same p ports.inputs (λ bits. map (λ o. aval g bits o) g.outputs) (outs n) (λ bits len. values bits (len ∙ many)) realizes);
   labels = labels ∙ outputs;
 }
+
+-- what a refusal for too few cells says
+pub short_is : (needed budget told : ℕ) (r : Refusal) → r ≡ TooFewCells told → IsRefusalFor needed budget r → (told ≡ needed) × (budget < needed)
+short_is needed budget told r is h = subst (λ (x : Refusal). IsRefusalFor needed budget x) is h

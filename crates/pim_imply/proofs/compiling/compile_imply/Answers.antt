@@ -1,6 +1,6 @@
-use Rattle.std.proofs.Common.{◌∙◌, ap}
+use Rattle.std.proofs.Common.{ℕ, ◌<◌, ◌∙◌, ap, subst}
 use Rattle.pim_imply.specs.Costs.{impcost, needed_of}
-use Rattle.pim_imply.proofs.Netlists.{computes}
+use Rattle.pim_imply.proofs.Netlists.{computes, short_is}
 use Rattle.pim_imply.proofs.compiling.compile_imply.Goals as goal
 
 pub returns-in-Ok-clause-computes : goal.returns-in-Ok-clause-computes
@@ -16,5 +16,6 @@ returns-in-Ok-clause-cycles c = c.in-Ok.ensures.cycles ∙ ap impcost c.in_ok-ai
 
 pub returns-in-Err-TooFewCells-clause-refused : goal.returns-in-Err-TooFewCells-clause-refused
 returns-in-Err-TooFewCells-clause-refused c =
-    let short = c.in-Err-TooFewCells.ensures.refused in
-    record { few = c.in_ok-aig.ensures.accepted; is = short.0 ∙ ap needed_of c.in_ok-aig.ensures.flat; below = short.1 }
+    let e = c.in-Err-TooFewCells in
+    let short = short_is _ _ e.needed e.field-0 e.field-0-is e.ensures.refused in
+    record { few = c.in_ok-aig.ensures.accepted; is = short.0 ∙ ap needed_of c.in_ok-aig.ensures.flat; below = subst (λ (n : ℕ). c.args.budget < n) (ap needed_of c.in_ok-aig.ensures.flat) short.1 }

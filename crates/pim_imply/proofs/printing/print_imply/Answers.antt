@@ -1,4 +1,4 @@
-use Rattle.std.proofs.Common.{◌≡◌, ℕ, ◌<◌, take, Err, List, sym, subst, Ok, length}
+use Rattle.std.proofs.Common.{rules, ◌≡◌, ℕ, ◌<◌, take, Err, List, sym, subst, Ok, length}
 use Rattle.pim_imply.specs.declared.fault.ImplyFault.TheVariants as faults
 use Rattle.pim_imply.specs.Reading.{imply_of}
 use Rattle.pim_imply.specs.Text.{text as text_of}
