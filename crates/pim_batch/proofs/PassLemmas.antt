@@ -36,9 +36,9 @@ lines_moved f h a b (suc n) same =
     let here : f a ≡ h b = let no_a : a + 0 ≡ a = omega arith in let no_b : b + 0 ≡ b = omega arith in sym (ap f no_a) ∙ same 0 (omega arith) ∙ ap h no_b in
     let others : (r : ℕ) → r < n → f (a + 1 + r) ≡ h (b + 1 + r) =
     λ r small.
-        let one_a : a + (r + 1) ≡ a + 1 + r = omega arith in
-        let one_b : b + (r + 1) ≡ b + 1 + r = omega arith in
-        sym (ap f one_a) ∙ same (r + 1) (omega arith) ∙ ap h one_b in
+    let one_a : a + (r + 1) ≡ a + 1 + r = omega arith in
+    let one_b : b + (r + 1) ≡ b + 1 + r = omega arith in
+    sym (ap f one_a) ∙ same (r + 1) (omega arith) ∙ ap h one_b in
     ap (λ (l : List ℕ). l ++ flat_map f (range_with_len (a + 1) n)) here
     ∙ ap (λ (l : List ℕ). h b ++ l) (lines_moved f h (a + 1) (b + 1) n others)
 

@@ -5,11 +5,11 @@ ghost use Rattle.pim_vectors.specs.Tiles.{IsVector};
 ghost use Rattle.pim_batch.specs.ImplyBatches.{AreOfPasses, IsRoom};
 ghost use Rattle.pim_batch.specs.ImplyTables.{imply_rows};
 
+use crate::Executor;
 use crate::batch::{CHUNK, tile_words};
 use crate::limits::{LARGE_WORDS, SMALL_WORDS};
 use crate::packed::Packed;
 use crate::passes::{Room, execute};
-use crate::Executor;
 use pim_imply::ImplyProgram;
 use pim_io::{MAX_INPUT, NoMemory, Sink, SinkFault};
 use pim_isa::Fill;

@@ -33,5 +33,7 @@ computes p n g ports inputs outputs many values realizes labels = record {
 }
 
 -- what a refusal for too few cells says
-pub short_is : (needed budget told : ℕ) (r : Refusal) → r ≡ TooFewCells told → IsRefusalFor needed budget r → (told ≡ needed) × (budget < needed)
-short_is needed budget told r is h = subst (λ (x : Refusal). IsRefusalFor needed budget x) is h
+pub short_is : (needed budget told : ℕ) (r : Refusal) → r ≡ TooFewCells told → IsRefusalFor needed budget r → (told ≡ needed) × (budget < told)
+short_is needed budget told r is h =
+    let says : IsRefusalFor needed budget (TooFewCells told) = subst (λ (x : Refusal). IsRefusalFor needed budget x) is h in
+    (says.0, subst (λ (n : ℕ). budget < n) (sym says.0) says.1)

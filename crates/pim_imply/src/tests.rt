@@ -161,11 +161,23 @@ fn judges_lines(rt: HostRuntime) -> Result<(), Fail> {
     for (place, line, fault) in [
         (0, "imply 2", Some(ImplyFault::Line(1))),
         (1, "cells 1048577", Some(ImplyFault::TooLarge)),
-        (2, "input 1 i0", Some(ImplyFault::Invalid(ImplyInvalid::Port(1)))),
+        (
+            2,
+            "input 1 i0",
+            Some(ImplyFault::Invalid(ImplyInvalid::Port(1))),
+        ),
         (5, "cycles 4", Some(ImplyFault::Line(11))),
         (6, "false  2", Some(ImplyFault::Line(7))),
-        (7, "imp 2 2", Some(ImplyFault::Invalid(ImplyInvalid::SameCell(1)))),
-        (8, "imp 0 4", Some(ImplyFault::Invalid(ImplyInvalid::CellRange(2)))),
+        (
+            7,
+            "imp 2 2",
+            Some(ImplyFault::Invalid(ImplyInvalid::SameCell(1))),
+        ),
+        (
+            8,
+            "imp 0 4",
+            Some(ImplyFault::Invalid(ImplyInvalid::CellRange(2))),
+        ),
         (9, "not 3 2", Some(ImplyFault::Line(10))),
         (11, "end\nend", Some(ImplyFault::Line(13))),
         (12, "", None),

@@ -1,4 +1,4 @@
-use Rattle.std.proofs.Common.{ℕ, ◌<◌, ◌∙◌, ap, subst}
+use Rattle.std.proofs.Common.{◌∙◌, ap}
 use Rattle.pim_imply.specs.Costs.{impcost, needed_of}
 use Rattle.pim_imply.proofs.Netlists.{computes, short_is}
 use Rattle.pim_imply.proofs.compiling.compile_imply.Goals as goal
@@ -18,4 +18,4 @@ pub returns-in-Err-TooFewCells-clause-refused : goal.returns-in-Err-TooFewCells-
 returns-in-Err-TooFewCells-clause-refused c =
     let e = c.in-Err-TooFewCells in
     let short = short_is _ _ e.needed e.field-0 e.field-0-is e.ensures.refused in
-    record { few = c.in_ok-aig.ensures.accepted; is = short.0 ∙ ap needed_of c.in_ok-aig.ensures.flat; below = subst (λ (n : ℕ). c.args.budget < n) (ap needed_of c.in_ok-aig.ensures.flat) short.1 }
+    record { few = c.in_ok-aig.ensures.accepted; is = short.0 ∙ ap needed_of c.in_ok-aig.ensures.flat; below = short.1 }
