@@ -17,7 +17,7 @@ use Rattle.pim_imply.specs.Programs.{ImplyView, body_of}
 use Rattle.pim_batch.specs.ImplyTables.{imply_line}
 use Rattle.pim_batch.specs.inner.ImplyLines.{imply_lines}
 use Rattle.pim_batch.specs.inner.TileLines.{row_line, row_lines}
-use Rattle.pim_batch.proofs.RowLemmas.{range-add}
+use Rattle.pim_batch.proofs.RowLemmas.{lines_same, range-add}
 
 -- a lane of some words of a column
 pub lane_part : (column : List ℕ) (first w r : ℕ) → r < 64 * w → lane (take w (drop first column)) r ≡ lane column (64 * first + r)
@@ -87,3 +87,11 @@ lines-cut p fill t first words rows some =
 pub pass_left : (first rows words all passes : ℕ) → 64 * first < rows → rows ≤ 64 * all → all ≡ first + passes * words → (n : ℕ) × (all ≡ first + words + n * words)
 pass_left first rows words all zero some within is = absurd (omega arith)
 pass_left first rows words all (suc n) some within is = (n, omega (arith, suc-mul n words))
+
+-- the lines of rows that stand in a tile
+pub lines_of_rows : (p : ImplyView) (fill : Fill) (t : TileView) (rows : List (List Bool)) (n : ℕ) → n ≡ length rows → rows ≡ map (vector_of t) (range_with_len 0 (length rows)) →
+    imply_lines p fill t 0 n ≡ flat_map (imply_line p fill) rows
+lines_of_rows p fill t rows n count are =
+    ap (imply_lines p fill t 0) count
+    ∙ sym (ap (flat_map (imply_line p fill)) are
+    ∙ lines_same (imply_line p fill) (vector_of t) (λ r. imply_line p fill (vector_of t r)) 0 (length rows) (λ r above below. refl))

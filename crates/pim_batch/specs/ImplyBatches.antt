@@ -29,11 +29,11 @@ pub record IsRoom (p : ImplyView) (room : Room) : Type 0 where
   pub line : length p.outputs + 1 ≤ length room.chunk.items
 
 -- what every batch keeps: room for a pass, vectors for whole passes, and at most so many rows as are packed together
-pub record IsImplyBatch (p : ImplyView) (vectors : PackedView) (room : Room) (most : ℕ) : Type 0 where
-  pub room : IsRoom p room
+pub record IsImplyBatch (p : ImplyView) (vectors : PackedView) (space : Room) (limit : ℕ) : Type 0 where
+  pub room : IsRoom p space
   pub columns : vectors.tile.columns ≡ length p.inputs
-  pub passes : AreOfPasses vectors.tile.words room.words
+  pub passes : AreOfPasses vectors.tile.words space.words
   pub few : vectors.tile.words ≤ 64
-  pub fits : length vectors.rows ≤ most
-  pub most_fits : most ≤ 64 * vectors.tile.words
-  pub most : most ≡ imply_rows (length p.inputs)
+  pub fits : length vectors.rows ≤ limit
+  pub most_fits : limit ≤ 64 * vectors.tile.words
+  pub most : limit ≡ imply_rows (length p.inputs)

@@ -51,7 +51,7 @@ impl<'a> ImplyBatch<'a> {
     ) -> Result<ImplyBatch<'a>, NoMemory>
         ensures { IfOk result (λ batch. batch ≡ record { program = program.now; fill = fill; vectors = [] }) }
     {
-        let inputs = program.inputs().len() as u32;
+        let inputs = program.body().inputs().len() as u32;
         let room = room_for(alloc, program)?;
         let most = rows_of(inputs);
         let words = vector_words(most, room.words);
