@@ -1,4 +1,5 @@
 pub mod RowLemmas
+pub mod PackingLemmas
 pub mod BatchLemmas
 mod Examples
 pub mod MajorityLemmas

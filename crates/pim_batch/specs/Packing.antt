@@ -1,6 +1,7 @@
 -- Rows that are packed one after another: full words of them stand in a tile, the last ones in a stage of one word.
 use Rattle.std.specs.Prelude.{◌≡◌, ℕ, ◌*◌, ◌/◌, ◌%◌, ◌≤◌, ◌==◌, if◌then◌else◌, Bool, List, map}
 use Rattle.std.specs.List.{range_with_len}
+use Rattle.pim_vectors.specs.declared.limits.TheConstants.{MAX_WORDS}
 use Rattle.pim_vectors.specs.Tiles.{TileView, vector_of}
 
 -- the tile for the rows, and the rows
@@ -20,4 +21,5 @@ packed_rows tile stage count = map (packed_row tile stage count) (range_with_len
 pub record IsPacked (tile stage : TileView) (count : ℕ) : Type 0 where
   pub single : stage.words ≡ 1
   pub columns : stage.columns ≡ tile.columns
+  pub short : tile.words ≤ MAX_WORDS
   pub within : count ≤ 64 * tile.words

@@ -125,7 +125,8 @@ fn load_stage(results: &Tile, stage: &mut Tile, index: u32)
     ensures held { (r : ℕ) → r < 64 → vector_of stage.new r ≡ vector_of results.now (64 * (index / 64) + r) }
     ensures sizes { SameSizes stage.old stage.new }
 {
-    if index % 64 == 0 {
-        stage.take_block(results, (index / 64) as usize);
+    if index % 64 != 0 {
+        return;
     }
+    stage.take_block(results, (index / 64) as usize);
 }

@@ -57,12 +57,13 @@ impl Packed {
         ensures pushed { self.new.rows ≡ self.old.rows ++ bits_of line.now ∷ [] }
         ensures sizes { SameSizes self.old.tile self.new.tile }
     {
-        let place = self.count % 64;
-        self.stage.pack(place, line);
-        if place == 63 {
-            self.tile.put_block((self.count / 64) as usize, &self.stage);
-        }
+        let index = self.count;
+        self.stage.pack(index % 64, line);
         self.count += 1;
+        if self.count % 64 != 0 {
+            return;
+        }
+        self.tile.put_block((index / 64) as usize, &self.stage);
     }
 
     /// Moves the last rows into the tile too: each row is a row of the tile then. Linear in the columns.
@@ -71,9 +72,10 @@ impl Packed {
         ensures same { self.new.rows ≡ self.old.rows }
         ensures sizes { SameSizes self.old.tile self.new.tile }
     {
-        if self.count % 64 != 0 {
-            self.tile.put_block((self.count / 64) as usize, &self.stage);
+        if self.count % 64 == 0 {
+            return;
         }
+        self.tile.put_block((self.count / 64) as usize, &self.stage);
     }
 
     /// The tile for the rows.
