@@ -14,7 +14,9 @@ use Rattle.pim_lanes.specs.Banks.{BankView, row_of}
 use Rattle.pim_vectors.specs.Tiles.{TileView, vector_of}
 use Rattle.pim_imply.specs.Machines.{iexec, load}
 use Rattle.pim_imply.specs.Programs.{ImplyView, body_of}
-use Rattle.pim_batch.specs.ImplyTables.{imply_line}
+use Rattle.pim_batch.specs.ImplyBatches.{ImplyBatchView}
+use Rattle.pim_batch.specs.ImplyTables.{imply_line, imply_runner}
+use Rattle.pim_batch.specs.Runners.{results}
 use Rattle.pim_batch.specs.inner.ImplyLines.{imply_lines}
 use Rattle.pim_batch.specs.inner.TileLines.{row_line, row_lines}
 use Rattle.pim_batch.proofs.RowLemmas.{lines_same, range-add}
@@ -95,3 +97,12 @@ lines_of_rows p fill t rows n count are =
     ap (imply_lines p fill t 0) count
     ∙ sym (ap (flat_map (imply_line p fill)) are
     ∙ lines_same (imply_line p fill) (vector_of t) (λ r. imply_line p fill (vector_of t r)) 0 (length rows) (λ r above below. refl))
+
+-- those of a batch: `view` is what its fields are seen as, and `b` the value that clauses speak of
+pub batch_lines : (view b : ImplyBatchView) (t tile : TileView) (rows : List (List Bool)) (n : ℕ) → view ≡ b → t ≡ tile → n ≡ length view.vectors → rows ≡ view.vectors →
+    rows ≡ map (vector_of tile) (range_with_len 0 (length rows)) → imply_lines view.program view.fill t 0 n ≡ results (imply_runner b.program b.fill) b.vectors
+batch_lines view b t tile rows n is same_tile count same tiled =
+    subst (λ (b : ImplyBatchView). imply_lines view.program view.fill t 0 n ≡ results (imply_runner b.program b.fill) b.vectors) is
+    (ap (λ (x : TileView). imply_lines view.program view.fill x 0 n) same_tile
+    ∙ lines_of_rows view.program view.fill tile rows n (count ∙ ap length (sym same)) tiled
+    ∙ ap (flat_map (imply_line view.program view.fill)) same)
