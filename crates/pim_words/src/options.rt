@@ -1,6 +1,6 @@
 //! The options of a command line.
 ghost use Rattle.clap.specs.declared.builder.value_parser.ValueParser.TheVariants as vp;
-ghost use Rattle.pim_words.specs.Lines.{option_of};
+ghost use Rattle.pim_words.specs.Lines.{cells_rule, option_of};
 ghost use Rattle.pim_words.specs.inner.Options.{HasRule};
 
 use clap::builder::ValueParser;
@@ -22,4 +22,12 @@ pub fn choice_of<'a>(alloc: Global, name: &'a str, choices: &'a [&'a str]) -> Ar
     ensures { HasRule (option_of name.entry.now (vp.Names choices.entry)) result }
 {
     option_of(alloc, name, ValueParser::Names(choices))
+}
+
+/// The option `--cells`, with a number of cells of a row.
+pub fn cells_option<'a>(alloc: Global) -> Arg<'a>
+    ensures { HasRule cells_rule result }
+{
+    let number = clap::value_parser!(u32).range(0..=1_048_576);
+    option_of(alloc, "cells", number).required(true)
 }
