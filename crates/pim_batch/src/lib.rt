@@ -11,3 +11,4 @@ mod tests;
 
 pub use batch::Batch;
 pub use executor::Executor;
+pub use rows::{gather_results, load_vectors};
