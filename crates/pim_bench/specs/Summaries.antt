@@ -3,7 +3,8 @@ use Rattle.std.specs.Prelude.{◌≡◌, ◌≤◌, ℕ, ◌+◌, ◌*◌, ◌++
 use Rattle.pim_adder.specs.Adders.{adder}
 use Rattle.pim_compile.specs.Choices.{IsChosen}
 use Rattle.pim_compile.specs.Computes.{Computes}
-use Rattle.pim_compile.specs.Networks.{FollowsSome, TakesCycles, need, nors_of_two}
+use Rattle.pim_compile.specs.Cycles.{IsQuick, TakesCycles}
+use Rattle.pim_compile.specs.Networks.{FollowsSome, need, nors_of_two}
 use Rattle.pim_compile.specs.Targets.{OnMagic, OnPlim}
 use Rattle.pim_compile.specs.declared.compiling.Level.TheVariants.{Zero}
 use Rattle.pim_isa.specs.Primed.{IsPrimed}
@@ -27,7 +28,8 @@ pub record IsCompiled (n : NetView) (target : Target) (budget : ℕ) (p : Progra
   pub batched : OnMagic target (Batched p)
   pub nors : OnMagic target (length (nor_places p.instrs) ≤ nors_of_two n)
   pub chosen : OnMagic target (IsChosen Zero n budget p)
-  pub cycles : OnPlim target (TakesCycles Zero p n)
+  pub quick : OnMagic target (IsQuick Zero n budget p)
+  pub cycles : OnPlim target (TakesCycles Zero n budget p)
 
 -- the first line: how many bits, inputs, outputs and rows there are
 abbrev pub head_line : ℕ → List ℕ
