@@ -36,7 +36,7 @@ module _ (n : NetView) (bits : ℕ) (is : draft_of n ≡ adder bits) where
       let a = range_with_len 0 bits in
       let b = range_with_len bits bits in
       ap (λ (d : DraftView). length d.inputs) is
-      ∙ omega (arith, length-append a (b ++ 2 * bits ∷ []), length-append b (2 * bits ∷ []), length-range_with_len 0 bits, length-range_with_len bits bits)
+      ∙ omega (arith, length-append (a ++ b) (2 * bits ∷ []), length-append a b, length-range_with_len 0 bits, length-range_with_len bits bits)
 
   input_labels : length n.input_labels ≡ 2 * bits + 1
   input_labels =
@@ -44,7 +44,7 @@ module _ (n : NetView) (bits : ℕ) (is : draft_of n ≡ adder bits) where
       let b = map (numbered 98) (range_with_len 0 bits) in
       let c = numbered 99 0 ∷ [] in
       ap (λ (d : DraftView). length d.input_labels) is
-      ∙ omega (arith, length-append a (b ++ c), length-append b c, length-map-range_with_len (numbered 97) 0 bits, length-map-range_with_len (numbered 98) 0 bits)
+      ∙ omega (arith, length-append (a ++ b) c, length-append a b, length-map-range_with_len (numbered 97) 0 bits, length-map-range_with_len (numbered 98) 0 bits)
 
   adder_outputs : length n.outputs ≡ bits + 1
   adder_outputs =

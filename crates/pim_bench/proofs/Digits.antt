@@ -1,5 +1,5 @@
 -- The lines of rows are lines of the characters 0 and 1.
-use Rattle.std.proofs.Common.{◌≡◌, ◌∙◌, ◌+◌, ◌*◌, ◌%◌, ◌/◌, ◌++◌, ◌⊎◌, ℕ, zero, suc, List, [], ◌∷◌, length, refl, ap, inl, inr, arith, subst, sym}
+use Rattle.std.proofs.Common.{◌≡◌, ◌∙◌, ◌+◌, ◌*◌, ◌%◌, ◌/◌, ◌++◌, ◌<◌, ◌⊎◌, ℕ, zero, suc, List, [], ◌∷◌, length, refl, ap, inl, inr, arith, subst, sym}
 use Rattle.std.specs.List.{All}
 use Rattle.std.proofs.lemmas.List.{length-append}
 use Rattle.std.proofs.lemmas.List.Elements.{All-append, All-cons, All-nil}
@@ -30,8 +30,8 @@ row_line_fits r =
     let a = digits r.bits (first r) in
     let b = digits r.bits (second r) in
     let c = digits 1 (carry r) in (
-      omega (arith, length-append a (b ++ c), length-append b c, length-digits r.bits (first r), length-digits r.bits (second r), length-digits 1 (carry r)),
-      All-append IsBit a (b ++ c) (digits_are_bits r.bits (first r)) (All-append IsBit b c (digits_are_bits r.bits (second r)) (digits_are_bits 1 (carry r))),
+      omega (arith, length-append (a ++ b) c, length-append a b, length-digits r.bits (first r), length-digits r.bits (second r), length-digits 1 (carry r)),
+      All-append IsBit (a ++ b) c (All-append IsBit a b (digits_are_bits r.bits (first r)) (digits_are_bits r.bits (second r))) (digits_are_bits 1 (carry r)),
     )
 
 pub row_sum_long : (r : RowsView) → length (row_sum r) ≡ r.bits + 1

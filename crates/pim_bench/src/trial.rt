@@ -167,7 +167,8 @@ fn compare_rows(
 
 /// One where the answer is not the sum, and else zero.
 fn difference(answer: &[u8], sum: &[u8]) -> u32
-    ensures { result ≡ (if bytes_eq answer.now sum.now then 0 else 1) }
+    ensures value { result ≡ (if bytes_eq answer.now sum.now then 0 else 1) }
+    ensures most { result ≤ 1 }
 {
     if is_text(answer, sum) { 0 } else { 1 }
 }

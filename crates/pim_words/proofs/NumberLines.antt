@@ -49,13 +49,13 @@ cells_given start line a added args groups globals negates has =
 bits_named : codes "bits" ≡ [] → ⊥
 bits_named e = cc
 
+apart : (x : ℕ) → x ≡ 98 → (x ≡ 104) ⊎ (x ≡ 118) → ⊥
+apart x b (inl h) = absurd (omega (arith, b, h))
+apart x b (inr v) = absurd (omega (arith, b, v))
+
 bits_own : (codes "bits" ≡ codes "help") ⊎ (codes "bits" ≡ codes "version") → ⊥
-bits_own (inl e) =
-    let bad : 98 ≡ 104 = ap (λ (t : Text). slice_index t 0) e in
-    absurd (omega arith)
-bits_own (inr e) =
-    let bad : 98 ≡ 118 = ap (λ (t : Text). slice_index t 0) e in
-    absurd (omega arith)
+bits_own (inl e) = apart (slice_index (codes "bits") 0) refl (inl (ap (λ (t : Text). slice_index t 0) e))
+bits_own (inr e) = apart (slice_index (codes "bits") 0) refl (inr (ap (λ (t : Text). slice_index t 0) e))
 
 pub bits_given : (start line : Command) (a : Arg) → AddsArg start a line → args_of start ≡ [] → groups_of start ≡ [] → (out-Command start).has_globals ≡ false
     → (out-Command start).subcommand_negates_reqs ≡ false → HasRule bits_rule a → (m : ArgMatches) → IsParsedFrom line m → HasBits m

@@ -1,4 +1,4 @@
-use Rattle.std.proofs.Common.{◌≡◌, ◌∙◌, ap₂, refl}
+use Rattle.std.proofs.Common.{◌∙◌, ap₂, refl}
 use Rattle.std.proofs.lemmas.Result.{IfOk-weaker}
 use Rattle.clap.specs.Words.{app_of, with_rule}
 use Rattle.pim_words.specs.Lines.{cells_line}
