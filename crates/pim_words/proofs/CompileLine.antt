@@ -1,20 +1,15 @@
 -- The command line of `compile` refuses and reads as its definition does, and gives a number of cells.
-use Rattle.std.proofs.Common.{◌≡◌, ◌∙◌, ◌≤◌, ◌<◌, ◌==◌, ◌++◌, ◌⊎◌, ℕ, Bool, List, [], ◌∷◌, length, drop, cond, refl, sym, ap, ap₂, subst, true, false, zero, suc, inl, inr, arith, codes, pos}
-use Rattle.std.specs.Prelude.{Some, None, unwrap_or}
+use Rattle.std.proofs.Common.{◌≡◌, ◌∙◌, ◌≤◌, ◌<◌, ◌++◌, ◌⊎◌, ℕ, List, [], ◌∷◌, length, refl, sym, ap, ap₂, subst, true, false, zero, suc, inl, inr, arith, codes, pos}
+use Rattle.std.specs.Prelude.{Some}
 use Rattle.std.specs.Borrow.{Bor}
 use Rattle.std.specs.List.{All, slice_index_or}
 use Rattle.std.specs.Str.{bytes_eq}
-use Rattle.std.specs.Str.Parse.{IsNumeral, digits_value, starts_with_minus, without_leading_plus}
-use Rattle.std.proofs.lemmas.Bool.{ne_eqb}
-use Rattle.std.proofs.lemmas.Int.{ints}
 use Rattle.std.proofs.lemmas.List.Elements.{All-nil}
-use Rattle.std.proofs.lemmas.Str.Parse.{digit_from_value}
 use Rattle.clap.specs.Facts.{args_of, groups_of, least_values}
 use Rattle.clap.specs.Lexer.{without_minus}
 use Rattle.clap.specs.Matches.{found_of, one_text}
 use Rattle.clap.specs.Built.{AddsArg, IsParsedFrom, IsPlain, IsPlainArg}
 use Rattle.clap.specs.Simple.{app_of, built, new_app, with_rule}
-use Rattle.clap.specs.Values.{IsSignedIn}
 use Rattle.clap.specs.Walk.{Rule, Text, texts}
 use Rattle.clap.specs.declared.builder.action.ArgAction.TheVariants.{Set}
 use Rattle.clap.specs.declared.builder.arg.Arg.{Arg}

@@ -1,5 +1,5 @@
 -- The command lines with one argument, which is a number, read as their definitions do, and give a number.
-use Rattle.std.proofs.Common.{◌≡◌, ◌∙◌, ◌⊎◌, ℕ, List, [], ap, arith, codes, false, inl, inr, pos, refl, subst, sym, true}
+use Rattle.std.proofs.Common.{◌≡◌, ◌∙◌, ◌⊎◌, ℕ, [], ap, arith, codes, false, inl, inr, pos, refl, subst, sym, true}
 use Rattle.std.specs.Prelude.{Some, slice_index}
 use Rattle.clap.specs.Built.{AddsArg, IsParsedFrom}
 use Rattle.clap.specs.Facts.{args_of, groups_of}
@@ -10,7 +10,6 @@ use Rattle.clap.specs.declared.builder.action.ArgAction.TheVariants.{Set}
 use Rattle.clap.specs.declared.builder.arg.Arg.{Arg}
 use Rattle.clap.specs.declared.builder.command.Command.{Command}
 use Rattle.clap.specs.declared.builder.command.Command.TheViews.{out-Command}
-use Rattle.clap.specs.declared.builder.value_parser.ValueParser.{ValueParser}
 use Rattle.clap.specs.declared.builder.value_parser.ValueParser.TheVariants as vp
 use Rattle.clap.specs.declared.parser.matches.ArgMatches.{ArgMatches}
 use Rattle.clap.proofs.CallerReads.{one_required_read}

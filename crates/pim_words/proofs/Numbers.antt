@@ -1,5 +1,5 @@
 -- A text that passed the range of a number is read as a number in it.
-use Rattle.std.proofs.Common.{◌≡◌, ◌≤◌, ◌==◌, ℕ, Bool, List, [], ◌∷◌, drop, cond, refl, sym, ap, subst, true, false, arith, pos}
+use Rattle.std.proofs.Common.{◌≡◌, ◌≤◌, ◌==◌, ℕ, Bool, [], ◌∷◌, drop, cond, refl, sym, ap, subst, true, false, arith, pos}
 use Rattle.std.specs.Prelude.{Some, None, unwrap_or}
 use Rattle.std.specs.Str.Parse.{IsNumeral, digits_value, starts_with_minus, without_leading_plus}
 use Rattle.std.proofs.lemmas.Bool.{ne_eqb}

@@ -148,11 +148,11 @@ with_level target Two text all = all.3
 compile_said : (target : TargetWord) (level : LevelWord) (n : ℕ) (rest : List Text) → n ≤ 1048576
     → Takes target level (compile_words target (decimal n) ++ rest) (decimal n) → IsTaken (commands.Compile target level n) (compile_words target (decimal n) ++ rest)
 compile_said target level n rest few takes = (
-      ap (λ k. not (is_empty k)) takes.0,
-      ap₂ (λ t l. option_map (commands.Compile t l) (option_map number_of (one_of (codes "cells") (matches_of compile_line (compile_words target (decimal n) ++ rest)))))
+  ap (λ k. not (is_empty k)) takes.0,
+  ap₂ (λ t l. option_map (commands.Compile t l) (option_map number_of (one_of (codes "cells") (matches_of compile_line (compile_words target (decimal n) ++ rest)))))
       takes.1 takes.2
       ∙ ap (λ o. option_map (commands.Compile target level) (option_map number_of o)) takes.3 ∙ ap (λ m. Some (commands.Compile target level m)) (number_same n few),
-    )
+)
 
 compile_taken : (target : TargetWord) (level : LevelWord) (n : ℕ) (words : List Text) → IsPlain (commands.Compile target level n) words → IsTaken (commands.Compile target level n) words
 compile_taken target level n words plain =
