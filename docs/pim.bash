@@ -4,7 +4,7 @@ _pim() {
   local word=${COMP_WORDS[COMP_CWORD]} before=${COMP_WORDS[COMP_CWORD - 1]} command=${COMP_WORDS[1]}
   COMPREPLY=()
   if ((COMP_CWORD == 1)); then
-    COMPREPLY=($(compgen -W "compile run list explain debug prove asm convert" -- "$word"))
+    COMPREPLY=($(compgen -W "compile run list explain debug prove share asm convert" -- "$word"))
     return
   fi
   case $before in
@@ -17,10 +17,12 @@ _pim() {
     case $command:$COMP_CWORD in
     compile:*) COMPREPLY=($(compgen -W "--target --cells --level" -- "$word")) ;;
     convert:*) COMPREPLY=($(compgen -W "--form" -- "$word")) ;;
-    run:2 | list:2 | explain:2 | debug:2 | prove:2)
+    run:2 | list:2 | explain:2 | debug:2 | prove:2 | share:2)
       compopt -o filenames 2>/dev/null
       mapfile -t COMPREPLY < <(compgen -f -- "$word")
       ;;
+    explain:*) COMPREPLY=($(compgen -W "--tree" -- "$word")) ;;
+    share:*) COMPREPLY=($(compgen -W "--cells" -- "$word")) ;;
     run:* | debug:*) COMPREPLY=($(compgen -W "--fill" -- "$word")) ;;
     esac
     ;;

@@ -28,10 +28,12 @@ def test_completion(pim, folder):
     equal("targets", completed(folder, "compile", "--target", ""), ["magic", "plim"])
     equal("a number", completed(folder, "compile", "--cells", ""), [])
     equal("forms", completed(folder, "convert", "--form", ""), ["1", "2"])
-    for command in "run", "list", "explain", "debug", "prove":
+    for command in "run", "list", "explain", "debug", "prove", "share":
         equal(f"files of {command}", completed(folder, command, "m"), ["my.pim"])
     for command in "run", "debug":
         equal(f"options of {command}", completed(folder, command, "my.pim", ""), ["--fill"])
+    equal("options of explain", completed(folder, "explain", "my.pim", ""), ["--tree"])
+    equal("options of share", completed(folder, "share", "my.pim", ""), ["--cells"])
     equal("fillings", completed(folder, "run", "my.pim", "--fill", "o"), ["ones"])
 
 
