@@ -1,6 +1,6 @@
 use Rattle.std.proofs.Common.{◌≡◌, ◌++◌, drop}
 use Rattle.pim_isa.specs.PortLists.{input_ports}
-use Rattle.pim_rm3.proofs.emit.add_inputs.Given as goal
+use Rattle.pim_rm3.proofs.ports.add_inputs.Given as goal
 
 -- the draft so far, with the ports of the labels that are left, is the draft with all of them
 abbrev pub invariant-loop-label : goal.invariant-loop-label
