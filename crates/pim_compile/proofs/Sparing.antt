@@ -89,19 +89,6 @@ module _ (g : AigView) (ports : PortsView) (budget : ℕ) where
       let found = above_zero (graphs_at level.Two g) r s p is smart base in
       record { program = found.program; cycles = record { few = found.few; smart = found.smart } }
 
-  one_there : (b : Bool) (p q : ProgramView) → (if b then Some q else Some p) ≡ None → ⊥
-  one_there true p q none = cc
-  one_there false p q none = cc
-
-  second_none : (r s : Option ProgramView) → shorter r s ≡ None → s ≡ None
-  second_none None s none = none
-  second_none (Some p) None none = refl
-  second_none (Some p) (Some q) none = absurd (one_there (nat_lt (length q.instrs) (length p.instrs)) p q none)
-
-  -- where none fits, the budget is below the need
-  none_plim : (r s : Option ProgramView) → shorter r s ≡ None → IsBaseOf g ports budget s → budget < needed_of g
-  none_plim r s none base = subst (IsBaseOf g ports budget) (second_none r s none) base
-
   -- of the two majority graphs of level 2
   pub two_graphs : (m r : MigView) (first second : Option ProgramView) → m ≡ majs (tidied g) → r ≡ rewritten m → IsSmartest g ports budget (r ∷ []) first → IsSmartest g ports budget (m ∷ []) second →
       IsSmartest g ports budget (graphs_at level.Two g) (shorter first second)
