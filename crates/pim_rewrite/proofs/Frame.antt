@@ -20,6 +20,10 @@ bool_cases false = inr refl
 pub true_not_false : (b : Bool) → b ≡ true → b ≡ false → ⊥
 true_not_false b e f = let g : true ≡ false = sym e ∙ f in let z : ⊥ = cc in z
 
+-- one where it is true
+abbrev pub one_if : Bool → ℕ
+one_if b = cond b 1 0
+
 pub positive : (n : ℕ) → ltb 0 n ≡ true → 0 < n
 positive n h = grind (arith, nat_tests)
 
@@ -140,10 +144,10 @@ pub times_append : (i : ℕ) (xs ys : List ℕ) → times i (xs ++ ys) ≡ times
 times_append i [] ys = omega arith
 times_append i (x ∷ xs) ys = let e = times_append i xs ys in omega arith
 
-times_other : (i j : ℕ) → j < i → cond (eqb j i) 1 0 ≡ 0
+times_other : (i j : ℕ) → j < i → one_if (eqb j i) ≡ 0
 times_other i j h = elim (eqb_tells j i) [
   | inl e ↦ absurd (omega (arith, e.1))
-  | inr o ↦ ap (λ (b : Bool). cond b 1 0) o.0
+  | inr o ↦ ap one_if o.0
 ]
 
 pub times_self : (i : ℕ) (xs : List ℕ) → 0 < times i (i ∷ xs)
@@ -238,7 +242,7 @@ operand_needed g k m i sound at h =
     let b = node_reads g k m i sound at in
     is_positive (named g i + reads g i) (omega arith)
 
-output_times : (outs : List Lit) (k : ℕ) (d : Lit) → k < length outs → 0 < times (node (get_or outs k d)) (map node outs)
+pub output_times : (outs : List Lit) (k : ℕ) (d : Lit) → k < length outs → 0 < times (node (get_or outs k d)) (map node outs)
 output_times [] k d h = absurd (omega arith)
 output_times (o ∷ outs) zero d h = times_self (node o) (map node outs)
 output_times (o ∷ outs) (suc k) d h = let e = output_times outs k d (omega arith) in omega arith

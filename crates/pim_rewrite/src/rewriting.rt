@@ -83,7 +83,8 @@ fn distribute(alloc: Global, reading: &Reading) -> Result<Mig, NoMemory>
 {
     nodes_have_laws();
     let _ = reading.nodes();
-    make(alloc, reading, Pass::Distribute)
+    let new = make(alloc, reading, Pass::Distribute)?;
+    Ok(new)
 }
 
 /// The flip pass.
@@ -97,7 +98,8 @@ fn flip(alloc: Global, mig: &Mig) -> Result<Mig, NoMemory>
     nodes_have_laws();
     let _ = mig.nodes();
     let reading = Reading::of(alloc, mig)?;
-    make(alloc, &reading, Pass::Flip)
+    let new = make(alloc, &reading, Pass::Flip)?;
+    Ok(new)
 }
 
 /// The copy of the needed nodes of a graph that is in normal form but for those that are not needed.
