@@ -13,7 +13,7 @@ use std::alloc::Global;
 use std::marker::Model;
 
 /// How many bytes are written at once, unless a single line is longer.
-const CHUNK: usize = 65_536;
+pub(crate) const CHUNK: usize = 65_536;
 
 /// The vectors that were packed and not executed yet, with all that executing them takes: a bank, a tile of vectors, a tile
 /// of results and room for some of their lines.
@@ -107,7 +107,7 @@ impl<'a> Executor for Batch<'a> {
 }
 
 /// How many words a column has: as many as 4,096 rows take, and as 256 rows take where a program has many cells or outputs.
-fn tile_words(program: &Program) -> usize
+pub(crate) fn tile_words(program: &Program) -> usize
     ensures value { result ≡ tile_words program.now }
     ensures within { result ≤ 64 }
 {

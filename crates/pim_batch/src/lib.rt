@@ -4,10 +4,14 @@
 
 mod batch;
 mod executor;
+mod imply;
 mod lines;
+mod majorities;
+mod passes;
 mod rows;
 #[cfg(test)]
 mod tests;
 
 pub use batch::Batch;
 pub use executor::Executor;
+pub use imply::ImplyBatch;

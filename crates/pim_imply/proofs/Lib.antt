@@ -1,6 +1,11 @@
 pub mod Finished
+pub mod FitLemmas
 pub mod GateReads
 pub mod Literals
+pub mod OneText
 pub mod Orders
+pub mod ReadBack
 pub mod Rows
+pub mod TextLaws
+pub mod TextLemmas
 pub mod Walks
