@@ -13,9 +13,9 @@ use Rattle.pim_top.specs.Calls.{IsCalm}
 use Rattle.pim_top.specs.Decides.{RowsDecide}
 use Rattle.pim_top.specs.Judged.{first_refusal, input_refusal, is_vector, judged_lines, settled}
 use Rattle.pim_top.specs.Reads.{Tells}
-use Rattle.pim_top.specs.Rows.{RowsEnd}
+use Rattle.pim_top.specs.Rows.{IsUnloaded, RowsEnd}
 use Rattle.pim_top.specs.Statuses.{answer_status}
-use Rattle.pim_top.specs.Streams.{Seen}
+use Rattle.pim_top.specs.Streams.{Seen, Stream}
 use Rattle.pim_top.specs.Walks.{ran}
 use Rattle.pim_top.specs.declared.judgement.Judgement.{Judgement}
 use Rattle.pim_top.specs.declared.judgement.Judgement.TheVariants as judgement
@@ -79,4 +79,18 @@ rows-fine load seen file input result t u calm h fine = elim (rows-decided load 
   | inl (inr judged) ↦ absurd (let a = fine.loaded in let b = judged.2 in let z : ⊥ = cc in z)
   | inr (inl late) ↦ inl (late.3 ∙ done load file input late.0 fine late.2)
   | inr (inr wanting) ↦ inr wanting
+]
+
+-- a file of which no program was made gives no runner
+pub unloaded : {X : Type 0} (load : List ℕ → Result X Judgement) (by : Result X Judgement → Result Runner Judgement) → ((j : Judgement) → by (Err j) ≡ Err j) → (s : Stream) (r : Refusal) → IsUnloaded load s r → IsUnloaded (λ file. by (load file)) s r
+unloaded load by keeps s refusal.Usage h = h
+unloaded load by keeps s refusal.NoMemory h = h
+unloaded load by keeps s (refusal.ReadFault origin.Program) h = h
+unloaded load by keeps s (refusal.ReadFault origin.Input) h = h
+unloaded load by keeps s (refusal.TooLong origin.Program) h = h
+unloaded load by keeps s (refusal.TooLong origin.Input) h = h
+unloaded load by keeps s refusal.WriteFault h = h
+unloaded load by keeps s (refusal.Judged j) h = elim h [
+  | inl wanting ↦ inl wanting
+  | inr loaded ↦ inr (record { file = loaded.file; read = loaded.read; is = ap by loaded.is ∙ keeps j })
 ]
