@@ -1,10 +1,10 @@
 -- Vectors that are executed together on the IMPLY machine.
 use Rattle.std.specs.Prelude.{◌≡◌, ℕ, ◌+◌, ◌*◌, ◌<◌, ◌≤◌, Bool, List, length}
 use Rattle.pim_isa.specs.declared.target.Fill.{Fill}
-use Rattle.pim_vectors.specs.Tiles.{TileView}
 use Rattle.pim_imply.specs.Programs.{ImplyView}
 use Rattle.pim_batch.specs.declared.passes.Room.{Room}
 use Rattle.pim_batch.specs.ImplyTables.{imply_rows}
+use Rattle.pim_batch.specs.Packing.{PackedView}
 
 -- the program, the filling of its other cells, and the bits of the vectors that are packed
 pub record ImplyBatchView : Type 0 where
@@ -24,14 +24,16 @@ pub record IsRoom (p : ImplyView) (room : Room) : Type 0 where
   pub words : room.bank.words ≡ room.words
   pub columns : room.results.columns ≡ length p.outputs
   pub result_words : room.results.words ≡ room.words
+  pub stage_columns : room.stage.columns ≡ room.results.columns
+  pub single : room.stage.words ≡ 1
   pub line : length p.outputs + 1 ≤ length room.chunk.items
 
 -- what every batch keeps: room for a pass, vectors for whole passes, and at most so many rows as are packed together
-pub record IsImplyBatch (p : ImplyView) (vectors : TileView) (room : Room) (rows most : ℕ) : Type 0 where
-  pub room : IsRoom p room
-  pub columns : vectors.columns ≡ length p.inputs
-  pub passes : AreOfPasses vectors.words room.words
-  pub few : vectors.words ≤ 64
-  pub fits : rows ≤ most
-  pub most_fits : most ≤ 64 * vectors.words
-  pub most : most ≡ imply_rows (length p.inputs)
+pub record IsImplyBatch (p : ImplyView) (vectors : PackedView) (space : Room) (limit : ℕ) : Type 0 where
+  pub room : IsRoom p space
+  pub columns : vectors.tile.columns ≡ length p.inputs
+  pub passes : AreOfPasses vectors.tile.words space.words
+  pub few : vectors.tile.words ≤ 64
+  pub fits : length vectors.rows ≤ limit
+  pub most_fits : limit ≤ 64 * vectors.tile.words
+  pub most : limit ≡ imply_rows (length p.inputs)

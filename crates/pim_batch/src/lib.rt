@@ -5,8 +5,10 @@
 mod batch;
 mod executor;
 mod imply;
+mod limits;
 mod lines;
 mod majorities;
+mod packed;
 mod passes;
 mod rows;
 #[cfg(test)]
@@ -15,3 +17,4 @@ mod tests;
 pub use batch::Batch;
 pub use executor::Executor;
 pub use imply::ImplyBatch;
+pub use limits::{LARGE_WORDS, MAX_LARGE, SMALL_WORDS};

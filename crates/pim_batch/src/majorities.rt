@@ -1,7 +1,8 @@
 ghost use Rattle.std.specs.Prelude.{◌≡◌, ℕ};
 ghost use Rattle.pim_lanes.specs.Banks.{row_of, IsRow, SameFrame};
 ghost use Rattle.pim_imply.specs.Machines.{iexec, istep};
-ghost use Rattle.pim_batch.specs.inner.Majorities.{Fits, as_majority};
+ghost use Rattle.pim_imply.specs.Validity.{IsFit};
+ghost use Rattle.pim_batch.specs.inner.Majorities.{as_majority};
 
 use pim_imply::{ImplyInstr, ImplyProgram};
 use pim_isa::{Instr, Operand};
@@ -26,8 +27,9 @@ fn as_majority(instr: ImplyInstr) -> Instr
 }
 
 /// Executes one instruction of the IMPLY machine in every row.
+#[tactic(auto, using(crate::proofs::MajorityLemmas::fits_majority, crate::proofs::MajorityLemmas::step_as))]
 fn apply(bank: &mut Bank, instr: ImplyInstr)
-    requires { Fits bank.old.cells instr }
+    requires { IsFit bank.old.cells instr }
     ensures rows { (r : ℕ) → IsRow bank.old r → row_of bank.new r ≡ istep (row_of bank.old r) instr }
     ensures frame { SameFrame bank.old bank.new }
 {

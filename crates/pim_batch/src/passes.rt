@@ -15,12 +15,14 @@ use pim_isa::{Fill, Program};
 use pim_lanes::Bank;
 use pim_vectors::Tile;
 
-/// What a pass is executed in: a bank, a tile of results, each of so many words, and room for some of their lines.
+/// What a pass is executed in: a bank and a tile of results, each of so many words, a stage for results of one word, and room for
+/// some of their lines.
 #[derive(Debug, Drop)]
 pub struct Room {
     pub(crate) words: usize,
     pub(crate) bank: Bank,
     pub(crate) results: Tile,
+    pub(crate) stage: Tile,
     pub(crate) chunk: Vec<u8>,
 }
 
@@ -81,7 +83,8 @@ fn pass<K: Sink>(
     gather_results(&mut room.results, program.body(), &room.bank);
     let lanes = left.min(64 * room.words as u32);
     let width = program.outputs().len() + 1;
-    write_results(&room.results, lanes, width, &mut room.chunk, output)
+    let stage = &mut room.stage;
+    write_results(&room.results, stage, lanes, width, &mut room.chunk, output)
 }
 
 /// Makes each row of a bank the row at the start for the vector in one of a tile's lanes, from the first lane of a word on to that

@@ -5,6 +5,7 @@ use Rattle.std.specs.Fmt.{decimal}
 use Rattle.std.specs.List.{AllByRecursion}
 use Rattle.std.proofs.lemmas.List.{length-append}
 use Rattle.pim_io.specs.declared.limits.TheConstants.{MAX_PROGRAM}
+use Rattle.pim_io.specs.Lines.{lines}
 use Rattle.pim_io.specs.Readings.{◌>>=◌, Gives}
 use Rattle.pim_isa.specs.Sound.{IsProgram}
 use Rattle.pim_isa.specs.declared.draft.TheConstants.{MAX_CELLS, MAX_INSTRS, MAX_PORTS}
@@ -12,7 +13,7 @@ use Rattle.pim_isa.specs.declared.port.Port.{Port}
 use Rattle.pim_text.specs.LineLaws.{ReadLines, OneLine, ProgramLines, LackNewlines}
 use Rattle.pim_text.specs.Text.{counted_text, port_text, ports_text}
 use Rattle.pim_imply.specs.Programs.{ImplyView, body_of}
-use Rattle.pim_imply.specs.Reading.{draft_of, imply_of, validated, with_fault}
+use Rattle.pim_imply.specs.Reading.{draft_of, imply_of, read_from, start, validated, with_fault}
 use Rattle.pim_imply.specs.Spelled.{HasLine, HasText}
 use Rattle.pim_imply.specs.Text.{imply_text, instrs_text, text as text_of}
 use Rattle.pim_imply.specs.Validity.{fault_of}
@@ -71,8 +72,9 @@ module _ (one : OneLine) where
   draft_is_small : (bytes : List ℕ) (d : ImplyView) → length bytes ≤ MAX_PROGRAM → draft_of bytes ≡ Ok d → HasFewParts d
   draft_is_small bytes d h e = small_text d (subst (λ (t : List ℕ). length t ≤ MAX_PROGRAM) (draft_is one bytes d e).0 h)
 
-  pub has_few : (bytes : List ℕ) (r : Result ImplyView ImplyFault) → length bytes ≤ MAX_PROGRAM → Gives faults.NoMemory (λ (d : ImplyView). d) r (draft_of bytes) → IfOk r HasFewParts
-  has_few bytes (Ok d) h e = draft_is_small bytes d h e
+  pub has_few : (bytes : List ℕ) (r : Result ImplyView ImplyFault) → length bytes ≤ MAX_PROGRAM → r ≡ read_from start (lines bytes) → IfOk r HasFewParts
+  unfolding draft_of
+  has_few bytes (Ok d) h e = draft_is_small bytes d h (sym e)
   has_few bytes (Err fault) h e = tt
 
 -- nothing but its text is read as a program

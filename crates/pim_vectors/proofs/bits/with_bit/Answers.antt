@@ -1,7 +1,7 @@
 use Rattle.std.proofs.Common.{Bool, cond, eqb, sym, ap, ◌∙◌}
 use Rattle.pim_io.specs.Lanes.{is_set}
 use Rattle.pim_vectors.proofs.TileLemmas.{is_set-set, is_set-clear}
-use Rattle.pim_vectors.proofs.lanes.with_bit.Goals as goal
+use Rattle.pim_vectors.proofs.bits.with_bit.Goals as goal
 
 pub returns-then-bit : goal.returns-then-bit
 returns-then-bit c = λ i small.
