@@ -202,7 +202,7 @@ turn_text line = bad (codes "turn line " ++ decimal line)
 
 -- why programs don't share a row; a turn has a line for itself, and the first line has the number 1
 abbrev pub share_text : ShareFault → List ℕ
-share_text (share.OtherTarget part) = bad (codes "part " ++ (decimal part ++ codes " other target"))
+share_text (share.OtherTarget part) = bad (part_words (Some part) ++ codes "other target")
 share_text (share.TooFewCells needed) = codes "too few cells: needed " ++ decimal needed
 share_text (share.Turn turn) = turn_text (turn + 1)
 share_text (share.Missing part) = bad (codes "turns missing part " ++ decimal part)
