@@ -14,10 +14,14 @@ lent x = record { ref_ptr = (0, 0); now = x }
 abbrev pub one_of_names : List Text → ValueParser
 one_of_names names = vp.Names (lent (map lent names))
 
+-- a word without a name, which is a value
+abbrev pub argument_of : Text → ValueParser → Rule
+argument_of name parser =
+    record (new_rule name) { action = Some Set; parser = Some parser }
+
 -- the option `--name`, which has one value
 abbrev pub option_of : Text → ValueParser → Rule
-option_of name parser =
-    record (new_rule name) { long = Some name; action = Some Set; parser = Some parser }
+option_of name parser = record (argument_of name parser) { long = Some name }
 
 abbrev pub required : Rule → Rule
 required a = record a { required = true }
@@ -74,12 +78,9 @@ tree_rule =
 abbrev pub explain_line : App
 explain_line = with_rule (new_app (codes "explain")) tree_rule
 
--- a word without a name, from 1 to 64
+-- a number from 1 to 64
 abbrev pub bits_rule : Rule
-bits_rule = required (record (new_rule (codes "bits")) {
-  action = Some Set;
-  parser = Some (vp.Signed (pos 1) (pos 64));
-})
+bits_rule = required (argument_of (codes "bits") (vp.Signed (pos 1) (pos 64)))
 
 -- `bench N`, with N from 1 to 64
 abbrev pub bench_line : App

@@ -111,7 +111,7 @@ explain_command = record {
 abbrev pub bench_command : BuiltCommand
 bench_command = record {
   line = bench_line;
-  said = λ rows. option_map (λ text. commands.Bench (number_of text)) (one_of (codes "bits") rows);
+  said = λ rows. option_map commands.Bench (option_map number_of (one_of (codes "bits") rows));
 }
 
 -- the command of this name, where it is built

@@ -48,8 +48,8 @@ fn compile_of(matches: &ArgMatches) -> Command
     requires { HasCells matches.now }
     ensures said { let target = target_of (first_value (found_of matches.now) (codes "target")) in
         let level = level_of (first_value (found_of matches.now) (codes "level")) in
-        option_map (λ text. commands.Compile target level (number_of text))
-        (one_text (found_of matches.now) (codes "cells")) ≡ Some result }
+        option_map (commands.Compile target level)
+        (option_map number_of (one_text (found_of matches.now) (codes "cells"))) ≡ Some result }
     ensures within { IsWithin result }
 {
     Command::Compile {

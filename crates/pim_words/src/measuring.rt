@@ -8,8 +8,9 @@ ghost use Rattle.pim_words.specs.Reading.{ReadsAlike, bench_command, number_of};
 ghost use Rattle.pim_words.specs.inner.Answer.{IsReading};
 ghost use Rattle.pim_words.specs.inner.Matches.{HasBits};
 
+use crate::options::argument_of;
 use crate::{Command, WordsFault};
-use clap::{Arg, ArgAction, ArgMatches};
+use clap::ArgMatches;
 use std::alloc::{AllocError, Global};
 
 /// The command line of `bench`, as `clap` reads it.
@@ -18,10 +19,7 @@ fn bench_line<'a>(alloc: Global) -> Result<clap::Command<'a>, AllocError>
     ensures bits { IfOk result (λ line. (m : ArgMatches) → IsParsedFrom line m → HasBits m) }
 {
     let number = clap::value_parser!(u32).range(1..=64);
-    let bits = Arg::new(alloc, "bits")
-        .action(ArgAction::Set)
-        .value_parser(number)
-        .required(true);
+    let bits = argument_of(alloc, "bits", number).required(true);
     clap::Command::new(alloc, "bench").arg(bits)
 }
 
