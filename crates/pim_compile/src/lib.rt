@@ -3,8 +3,10 @@
 
 mod compiling;
 mod magic;
+mod plim;
 mod ports;
 mod refusal;
+mod shorter;
 #[cfg(test)]
 mod tests;
 

@@ -6,7 +6,6 @@ ghost use Rattle.pim_mig.specs.Majs.{begun, majs, making, moved};
 ghost use Rattle.pim_mig.specs.Values.{mval};
 
 use crate::Mig;
-use crate::laws::nodes_have_laws;
 use pim_aig::{Aig, Lit};
 use pim_io::NoMemory;
 use std::alloc::Global;
@@ -24,7 +23,6 @@ pub fn from_aig(alloc: Global, aig: &Aig) -> Result<Mig, NoMemory>
     add_outputs(&mut mig, &lits, aig)?;
     aig.has_values();
     mig.has_values();
-    nodes_have_laws();
     Ok(mig)
 }
 

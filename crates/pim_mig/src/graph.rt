@@ -73,12 +73,13 @@ impl Mig {
             → mval self.new bits l ≡ majority (mval self.new bits x) (mval self.new bits y) (mval self.new bits z)) }
     {
         let node = Maj { x, y, z };
-        let literal = match node.simplified() {
-            Some(literal) => literal,
-            None => Lit::plain(1 + self.inputs + self.share(node)?),
-        };
+        if let Some(literal) = node.simplified() {
+            self.has_values();
+            return Ok(literal);
+        }
+        let place = self.share(node)?;
         self.has_values();
-        Ok(literal)
+        Ok(Lit::plain(1 + self.inputs + place))
     }
 
     /// The place of the node that reads the same three literals, which is appended if there is none.
@@ -95,9 +96,10 @@ impl Mig {
     {
         self.nodes.reserve(1)?;
         let (place, is_new) = self.keys.insert_full(node.key())?;
-        if is_new {
-            self.nodes.push(node)?;
+        if !is_new {
+            return Ok(place as u32);
         }
+        self.nodes.push(node)?;
         Ok(place as u32)
     }
 

@@ -12,6 +12,8 @@ mod compile;
 #[cfg(test)]
 mod debug;
 #[cfg(test)]
+mod imply;
+#[cfg(test)]
 mod memory;
 #[cfg(test)]
 mod outside;
@@ -19,3 +21,5 @@ mod outside;
 mod programs;
 #[cfg(test)]
 mod run;
+#[cfg(test)]
+mod share;

@@ -19,9 +19,12 @@ use crate::commands::compile::Compile;
 use crate::commands::convert::Convert;
 use crate::commands::debug::debug;
 use crate::commands::explain::Explain;
+use crate::commands::imply::Imply;
+use crate::commands::implyrun::implyrun;
 use crate::commands::list;
 use crate::commands::prove::Prove;
 use crate::commands::run::run;
+use crate::commands::share::Share;
 use crate::note::tell;
 use crate::refusal::{Origin, Refusal};
 use crate::whole::write_text;
@@ -164,11 +167,15 @@ fn execute<P: Source, S: Source, K: Sink>(
         }
         Command::Run { fill } => run(alloc, fill, program, input, output),
         Command::List => write_text(alloc, &list::List, program, input, output),
-        Command::Explain => write_text(alloc, &Explain, program, input, output),
+        Command::Explain { tree } => write_text(alloc, &Explain { tree }, program, input, output),
         Command::Prove => write_text(alloc, &Prove, program, input, output),
         Command::Asm => write_text(alloc, &Asm, program, input, output),
         Command::Debug { fill } => debug(alloc, fill, program, input, output),
         Command::Convert { form } => write_text(alloc, &Convert { form }, program, input, output),
+        Command::Imply { cells } => write_text(alloc, &Imply { cells }, program, input, output),
+        Command::Implyrun { fill } => implyrun(alloc, fill, program, input, output),
+        Command::Share { cells } => write_text(alloc, &Share { cells }, program, input, output),
+        _ => Err(Refusal::NoMemory),
     }
 }
 

@@ -88,5 +88,7 @@ fn level_of(word: LevelWord) -> Level
 {
     match word {
         LevelWord::Zero => Level::Zero,
+        LevelWord::One => Level::One,
+        LevelWord::Two => Level::Two,
     }
 }
