@@ -9,7 +9,7 @@ use Rattle.pim_bench.proofs.trial.count_wrong.Goals as goal
 
 pub loop-k-init : goal.loop-k-init
 loop-k-init c = record {
-  wrong = ap (λ (t : TrialView). wrong_in c.args.program.now 262144 t.row) c.in_ok-trial.ensures ∙ all_wrong c.args.program.now c.args.bits;
+  wrong = ap (λ (t : TrialView). 0 + wrong_in c.args.program.now 262144 t.row) c.in_ok-trial.ensures ∙ all_wrong c.args.program.now c.args.bits;
   few = omega arith;
   program = ap (λ (t : TrialView). t.program) c.in_ok-trial.ensures;
 }
