@@ -3,14 +3,16 @@
 
 def parsed(text):
     """A program's text: the number of cells, the cells of the inputs and of the outputs, and the lines of the instructions."""
-    lines = text.decode().split("\n")
+    lines = text.decode("latin1").split("\n")
     ports = {kind: [int(line.split(" ")[1]) for line in lines if line.startswith(kind + " ")] for kind in ("input", "output")}
     begin = next(k for k, line in enumerate(lines) if line.startswith("cycles "))
-    return int(lines[2].removeprefix("cells ")), ports["input"], ports["output"], lines[begin + 1:lines.index("end")]
+    cells = next(line for line in lines if line.startswith("cells "))
+    return int(cells.removeprefix("cells ")), ports["input"], ports["output"], lines[begin + 1:lines.index("end")]
 
 
 def step(row, instruction):
-    """Executes one instruction: an `init` sets cells, a NOR can only clear its target, an RM3 takes a majority."""
+    """Executes one instruction: an `init` sets cells, a NOR can only clear its target, an RM3 takes a majority, a `false` clears a
+    cell, and an `imp` leaves whether one cell implies another in that other one."""
     word, *operands = instruction.split(" ")
     if word == "init":
         for cell in operands:
@@ -21,6 +23,11 @@ def step(row, instruction):
     elif word == "rm3":
         p, q, z = [int(text[1:]) if text[0] == "#" else row[int(text[1:])] for text in operands]
         row[int(operands[2][1:])] = int(p + (1 - q) + z >= 2)
+    elif word == "false":
+        row[int(operands[0])] = 0
+    elif word == "imp":
+        p, q = map(int, operands)
+        row[q] = int(not row[p] or row[q])
     else:
         raise ValueError(instruction)
 

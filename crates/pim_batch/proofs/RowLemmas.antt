@@ -55,10 +55,10 @@ with_inputs-drop (p ∷ ps) (b ∷ bits) m (suc k) d small long =
     rw next (with_inputs-drop ps bits m k d (omega arith) (omega arith))
 
 -- one more column of inputs was put into its cell
-pub loaded_more : (ports : List Port) (t : TileView) (r k : ℕ) (p : Port) (words : List ℕ) (old new m : List Bool) →
-    p ≡ get_or ports k p → k < length ports → t.columns ≡ length ports → lane words r ≡ get_or (vector_of t r) k false → new ≡ set old p.cell (lane words r) →
+pub loaded_more : (ports : List Port) (t : TileView) (r k : ℕ) (p : Port) (value : Bool) (old new m : List Bool) →
+    p ≡ get_or ports k p → k < length ports → t.columns ≡ length ports → value ≡ get_or (vector_of t r) k false → new ≡ set old p.cell value →
     with_inputs (drop k ports) (drop k (vector_of t r)) old ≡ m → with_inputs (drop (k + 1) ports) (drop (k + 1) (vector_of t r)) new ≡ m
-loaded_more ports t r k p words old new m is small columns bit_is new_is before =
+loaded_more ports t r k p value old new m is small columns bit_is new_is before =
     let rest : List Bool → List Bool = λ l. with_inputs (drop (k + 1) ports) (drop (k + 1) (vector_of t r)) l in
     ap rest new_is
     ∙ ap (λ (b : Bool). rest (set old p.cell b)) bit_is
@@ -112,7 +112,7 @@ lines_same f g h a (suc n) same =
     ap (λ (l : List ℕ). l ++ flat_map f (map g (range_with_len (a + 1) n))) (same a (omega arith) (omega arith))
     ∙ ap (λ (l : List ℕ). h a ++ l) (lines_same f g h (a + 1) n (λ r above below. same r (omega arith) (omega arith)))
 
-range-add : (a n m : ℕ) → range_with_len a (n + m) ≡ range_with_len a n ++ range_with_len (a + n) m
+pub range-add : (a n m : ℕ) → range_with_len a (n + m) ≡ range_with_len a n ++ range_with_len (a + n) m
 range-add a zero m =
     let start : zero + m ≡ m = omega arith in
     let same : a + zero ≡ a = omega arith in

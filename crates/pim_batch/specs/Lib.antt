@@ -1,4 +1,7 @@
 pub mod Runners
 pub mod Tables
+pub mod Packing
 pub mod Batches
+pub mod ImplyTables
+pub mod ImplyBatches
 pub mod inner

@@ -5,6 +5,7 @@ use Rattle.pim_io.specs.Bits.{line_of}
 use Rattle.pim_isa.specs.Programs.{ProgramView}
 use Rattle.pim_isa.specs.Results.{result_of}
 use Rattle.pim_isa.specs.declared.target.Fill.{Fill}
+use Rattle.pim_batch.specs.declared.limits.TheConstants.{MAX_LARGE, LARGE_WORDS, SMALL_WORDS}
 use Rattle.pim_batch.specs.Runners.{Runner}
 
 -- the line that a program gives for the bits of a vector
@@ -17,7 +18,7 @@ table p fill vectors = flat_map (result_line p fill) vectors
 
 -- how many words a column of a tile has: 64 rows in each
 abbrev pub tile_words : ProgramView → ℕ
-tile_words p = if nat_le p.cells 65536 && nat_le (length p.outputs) 65536 then 64 else 4
+tile_words p = if nat_le p.cells MAX_LARGE && nat_le (length p.outputs) MAX_LARGE then LARGE_WORDS else SMALL_WORDS
 
 -- how many rows are executed together
 abbrev pub tile_rows : ProgramView → ℕ

@@ -4,6 +4,8 @@ ghost use Rattle.pim_io.specs.Outside.{Wrote};
 ghost use Rattle.pim_vectors.specs.Tiles.{IsVector};
 ghost use Rattle.pim_batch.specs.Tables.{table, tile_rows, tile_words};
 
+use crate::limits::{LARGE_WORDS, MAX_LARGE, SMALL_WORDS};
+use crate::packed::Packed;
 use crate::{Executor, lines, rows};
 use pim_io::{NoMemory, Sink, SinkFault};
 use pim_isa::{Fill, Program};
@@ -13,28 +15,25 @@ use std::alloc::Global;
 use std::marker::Model;
 
 /// How many bytes are written at once, unless a single line is longer.
-const CHUNK: usize = 65_536;
+pub(crate) const CHUNK: usize = 65_536;
 
-/// The vectors that were packed and not executed yet, with all that executing them takes: a bank, a tile of vectors, a tile
-/// of results and room for some of their lines.
+/// The vectors that were packed and not executed yet, with all that executing them takes: a bank, the packed vectors, a
+/// tile of results with a stage for those of one word, and room for some of their lines.
 #[derive(Debug, Drop)]
 pub struct Batch<'a> {
     program: &'a Program,
     fill: Fill,
     bank: Bank,
-    vectors: Tile,
+    vectors: Packed,
     results: Tile,
+    stage: Tile,
     chunk: Vec<u8>,
-    rows: u32,
 
     // How many rows are executed together.
     most: u32,
 }
 
 impl<'a> Model for Batch<'a> {
-    ghost use Rattle.std.specs.Prelude.{map};
-    ghost use Rattle.std.specs.List.{range_with_len};
-    ghost use Rattle.pim_vectors.specs.Tiles.{vector_of};
     ghost use Rattle.pim_batch.specs.Batches.{BatchView, IsBatch};
 
     ghost Value = { BatchView };
@@ -42,10 +41,10 @@ impl<'a> Model for Batch<'a> {
     ghost view = { λ b. record {
       program = b.program.now;
       fill = b.fill;
-      vectors = map (vector_of b.vectors) (range_with_len 0 b.rows);
+      vectors = b.vectors.rows;
     } };
 
-    ghost invariant = { λ b. IsBatch b.program.now b.bank b.vectors b.results b.chunk.items b.rows b.most };
+    ghost invariant = { λ b. IsBatch b.program.now b.bank b.vectors b.results b.stage b.chunk.items b.most };
 }
 
 impl<'a> Batch<'a> {
@@ -62,10 +61,10 @@ impl<'a> Batch<'a> {
             program,
             fill,
             bank: Bank::new(alloc, program.cells(), words)?,
-            vectors: Tile::new(alloc, inputs, words)?,
+            vectors: Packed::new(alloc, inputs, words)?,
             results: Tile::new(alloc, outputs, words)?,
+            stage: Tile::new(alloc, outputs, 1)?,
             chunk: vec![in alloc; 0; CHUNK.max(outputs as usize + 1)]?,
-            rows: 0,
             most: 64 * words as u32,
         })
     }
@@ -79,13 +78,12 @@ impl<'a> Executor for Batch<'a> {
     ghost rows = { λ b. b.vectors };
 
     fn is_full(&self) -> bool {
-        self.rows == self.most
+        self.vectors.count() == self.most
     }
 
     /// Linear in the line.
     fn push(&mut self, line: &[u8]) {
-        self.vectors.pack(self.rows, line);
-        self.rows += 1;
+        self.vectors.push(line);
     }
 
     /// After a fault a second call would write those lines again that the sink took: drop the batch. Where none is packed nothing is
@@ -93,27 +91,31 @@ impl<'a> Executor for Batch<'a> {
     /// an Init names. Beside that the cost is linear in the cells and outputs and in the characters that are written: as many whole
     /// lines at once as 64 KiB hold, or one. Takes no memory.
     fn flush<K: Sink>(&mut self, output: &mut K) -> Result<(), SinkFault> {
-        if self.rows == 0 {
+        let count = self.vectors.count();
+        if count == 0 {
             return Ok(());
         }
-        rows::load_vectors(&mut self.bank, self.program, self.fill, &self.vectors);
+        self.vectors.settle();
+        let vectors = self.vectors.tile();
+        rows::load_vectors(&mut self.bank, self.program, self.fill, vectors);
         self.bank.run(self.program);
         rows::gather_results(&mut self.results, self.program, &self.bank);
         let width = self.program.outputs().len() + 1;
-        lines::write_results(&self.results, self.rows, width, &mut self.chunk, output)?;
-        self.rows = 0;
+        let stage = &mut self.stage;
+        lines::write_results(&self.results, stage, count, width, &mut self.chunk, output)?;
+        self.vectors.clear();
         Ok(())
     }
 }
 
 /// How many words a column has: as many as 4,096 rows take, and as 256 rows take where a program has many cells or outputs.
-fn tile_words(program: &Program) -> usize
+pub(crate) fn tile_words(program: &Program) -> usize
     ensures value { result ≡ tile_words program.now }
     ensures within { result ≤ 64 }
 {
-    if program.cells() <= 65_536 && program.outputs().len() <= 65_536 {
-        64
+    if program.cells() <= MAX_LARGE && program.outputs().len() <= MAX_LARGE as usize {
+        LARGE_WORDS
     } else {
-        4
+        SMALL_WORDS
     }
 }

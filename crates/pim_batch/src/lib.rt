@@ -4,11 +4,18 @@
 
 mod batch;
 mod executor;
+mod imply;
+mod limits;
 mod lines;
+mod majorities;
+mod packed;
+mod passes;
 mod rows;
 #[cfg(test)]
 mod tests;
 
 pub use batch::Batch;
 pub use executor::Executor;
+pub use imply::ImplyBatch;
+pub use limits::{LARGE_WORDS, MAX_LARGE, SMALL_WORDS};
 pub use rows::{gather_results, load_vectors};

@@ -1,14 +1,16 @@
-ghost use Rattle.std.specs.Prelude.{◌≡◌, ◌+◌, ◌*◌, ◌^◌, ◌<◌, ◌≤◌, length};
+ghost use Rattle.std.specs.Prelude.{◌≡◌, ℕ, ◌+◌, ◌*◌, ◌/◌, ◌^◌, ◌<◌, ◌≤◌, length};
 ghost use Rattle.pim_io.specs.Outside.{Wrote};
-ghost use Rattle.pim_batch.specs.inner.TileLines.{row_line, row_lines, row_lines_from};
+ghost use Rattle.pim_vectors.specs.Tiles.{SameSizes, vector_of};
+ghost use Rattle.pim_batch.specs.inner.TileLines.{IsStage, row_line, row_lines, row_lines_from};
 
 use pim_io::{Sink, SinkFault, tell_writes, write_all};
 use pim_vectors::Tile;
 
 /// Writes the vectors in the first lanes of a tile, a line of characters for each, as many lines at once as the chunk has room
-/// for. A line takes `width` bytes with its newline.
+/// for. A line takes `width` bytes with its newline. The rows come by way of a stage of one word.
 pub(crate) fn write_results<K: Sink>(
     results: &Tile,
+    stage: &mut Tile,
     lanes: u32,
     width: usize,
     chunk: &mut [u8],
@@ -17,16 +19,19 @@ pub(crate) fn write_results<K: Sink>(
     requires lanes { lanes ≤ 64 * results.now.words }
     requires width { width ≡ results.now.columns + 1 }
     requires room { width ≤ length chunk.old }
+    requires single { stage.old.words ≡ 1 }
+    requires columns { stage.old.columns ≡ results.now.columns }
     ensures wrote { Wrote result (K.taken output.old) (K.taken output.new) (K.faults output.old) (K.faults output.new)
         (row_lines results.now lanes) }
     ensures never_falls { K.faults output.old ≤ K.faults output.new }
+    ensures stage { SameSizes stage.old stage.new }
     ensures room { length chunk.new ≡ length chunk.old }
 {
     tell_writes();
     let mut from = 0;
     while from < lanes {
         let count = count_at_once(lanes - from, width, chunk);
-        write_lanes(results, from, count, width, chunk, output)?;
+        write_lanes(results, stage, from, count, width, chunk, output)?;
         from += count;
     }
     Ok(())
@@ -47,6 +52,7 @@ fn count_at_once(left: u32, width: usize, chunk: &[u8]) -> u32
 /// Writes some lanes of a tile at once, a line of characters for each; the chunk is room for them.
 fn write_lanes<K: Sink>(
     results: &Tile,
+    stage: &mut Tile,
     from: u32,
     count: u32,
     width: usize,
@@ -57,40 +63,70 @@ fn write_lanes<K: Sink>(
     requires fits { from + count < 2 ^ 32 }
     requires width { width ≡ results.now.columns + 1 }
     requires room { count * width ≤ length chunk.old }
+    requires stage { IsStage results.now stage.old from }
     ensures wrote { Wrote result (K.taken output.old) (K.taken output.new) (K.faults output.old) (K.faults output.new)
         (row_lines_from results.now from count) }
     ensures never_falls { K.faults output.old ≤ K.faults output.new }
+    ensures stage { IsStage results.now stage.new (from + count) }
+    ensures sizes { SameSizes stage.old stage.new }
     ensures room { length chunk.new ≡ length chunk.old }
 {
     let lines = &mut chunk[..count as usize * width];
-    put_lines(results, from, count, width, lines);
+    put_lines(results, stage, from, count, width, lines);
     write_all(output, lines)
 }
 
 /// Fills a list with lanes of a tile, a line of characters for each.
-fn put_lines(results: &Tile, from: u32, count: u32, width: usize, lines: &mut [u8])
+fn put_lines(
+    results: &Tile,
+    stage: &mut Tile,
+    from: u32,
+    count: u32,
+    width: usize,
+    lines: &mut [u8],
+)
     requires lanes { from + count ≤ 64 * results.now.words }
     requires fits { from + count < 2 ^ 32 }
     requires width { width ≡ results.now.columns + 1 }
     requires long { length lines.old ≡ count * width }
+    requires stage { IsStage results.now stage.old from }
     ensures value { lines.new ≡ row_lines_from results.now from count }
     ensures long { length lines.new ≡ length lines.old }
+    ensures stage { IsStage results.now stage.new (from + count) }
+    ensures sizes { SameSizes stage.old stage.new }
 {
     let mut at = 0;
     for k in 0..count {
-        put_line(results, from + k, &mut lines[at..at + width]);
+        put_line(results, stage, from + k, &mut lines[at..at + width]);
         at += width;
     }
 }
 
 /// Fills a list with one lane of a tile as a line of characters, with a newline behind it.
-fn put_line(results: &Tile, index: u32, line: &mut [u8])
+fn put_line(results: &Tile, stage: &mut Tile, index: u32, line: &mut [u8])
     requires lane { index < 64 * results.now.words }
     requires long { length line.old ≡ results.now.columns + 1 }
+    requires stage { IsStage results.now stage.old index }
     ensures value { line.new ≡ row_line results.now index }
     ensures long { length line.new ≡ length line.old }
+    ensures stage { IsStage results.now stage.new (index + 1) }
+    ensures sizes { SameSizes stage.old stage.new }
 {
+    load_stage(results, stage, index);
     let columns = line.len() - 1;
-    results.unpack(index, &mut line[..columns]);
+    stage.unpack(index % 64, &mut line[..columns]);
     line[columns] = b'\n';
+}
+
+/// Makes a stage hold the rows that share a word with this one.
+fn load_stage(results: &Tile, stage: &mut Tile, index: u32)
+    requires lane { index < 64 * results.now.words }
+    requires stage { IsStage results.now stage.old index }
+    ensures held { (r : ℕ) → r < 64 → vector_of stage.new r ≡ vector_of results.now (64 * (index / 64) + r) }
+    ensures sizes { SameSizes stage.old stage.new }
+{
+    if index % 64 != 0 {
+        return;
+    }
+    stage.take_block(results, (index / 64) as usize);
 }

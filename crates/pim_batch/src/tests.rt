@@ -1,6 +1,7 @@
 ghost use Rattle.std.specs.Prelude.{◌≡◌, length, IfOk};
 
-use crate::{Batch, Executor, lines};
+use crate::{Batch, Executor, ImplyBatch, lines};
+use pim_imply::{ImplyDraft, ImplyInstr, ImplyProgram};
 use pim_io::{MemSink, NoMemory};
 use pim_isa::{Cells, Fill, Ins, Instr, Program, ProgramDraft, Target};
 use pim_vectors::{Tile, vector_fits};
@@ -69,7 +70,47 @@ fn lines_that_have_no_room_in_the_chunk_are_written_next(rt: HostRuntime) -> Res
     let mut chunk = [0; 5];
     // a third call of the sink would fail
     let mut sink = MemSink::new(rt.alloc(), 6, 6, &[2])?;
-    lines::write_results(&results, 3, 2, &mut chunk, &mut sink)?;
+    let mut stage = Tile::new(rt.alloc(), 1, 1)?;
+    lines::write_results(&results, &mut stage, 3, 2, &mut chunk, &mut sink)?;
     assert_eq!(rt; sink.bytes(), b"0\n1\n0\n".as_slice());
+    Ok(())
+}
+
+/// The AND of the inputs in the cells 0 and 1 as the output in cell 3.
+fn imply_draft(alloc: Global) -> Result<ImplyDraft, NoMemory>
+    ensures { IfOk result (λ draft. (length draft.inputs ≡ 2) × (length draft.outputs ≡ 1) × (length draft.instrs ≡ 5)) }
+{
+    let mut draft = ImplyDraft::new(alloc, 4);
+    draft.add_input(0, b"a")?;
+    draft.add_input(1, b"b")?;
+    draft.add_output(3, b"y")?;
+    draft.add(ImplyInstr::False(2))?;
+    draft.add(ImplyInstr::Imp { p: 1, q: 2 })?;
+    draft.add(ImplyInstr::Imp { p: 0, q: 2 })?;
+    draft.add(ImplyInstr::False(3))?;
+    draft.add(ImplyInstr::Imp { p: 2, q: 3 })?;
+    Ok(draft)
+}
+
+/// Packs a vector of two bits.
+fn pack_imply(rt: &impl Abort, batch: &mut ImplyBatch, line: &[u8])
+    requires { length batch.old.program.inputs ≡ 2 }
+    ensures { length batch.new.program.inputs ≡ 2 }
+{
+    assert!(rt; vector_fits(line, 2));
+    assert!(rt; !batch.is_full());
+    batch.push(line);
+}
+
+#[test]
+fn an_imply_program_runs_on_each_vector(rt: HostRuntime) -> Result<(), Fail> {
+    let program = ImplyProgram::new(imply_draft(rt.alloc())?)?;
+    let mut batch = ImplyBatch::new(rt.alloc(), &program, Fill::Ones)?;
+    pack_imply(&rt, &mut batch, b"11");
+    pack_imply(&rt, &mut batch, b"01");
+    pack_imply(&rt, &mut batch, b"10");
+    let mut sink = MemSink::new(rt.alloc(), 6, 6, &[1])?;
+    batch.flush(&mut sink)?;
+    assert_eq!(rt; sink.bytes(), b"1\n0\n0\n".as_slice());
     Ok(())
 }

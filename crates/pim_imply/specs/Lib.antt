@@ -4,7 +4,11 @@ pub mod Validity
 pub mod Machines
 pub mod Realizes
 pub mod Text
+pub mod Lines
+pub mod Reading
+pub mod Spelled
 pub mod Gates
 pub mod Schedules
 pub mod Costs
 pub mod Refusals
+pub mod Compiled

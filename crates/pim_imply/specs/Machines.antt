@@ -1,5 +1,5 @@
 -- The machine: what one instruction does to a row of bits, and what a list of them does.
-use Rattle.std.specs.Prelude.{ℕ, ◌+◌, ◌||◌, Bool, false, not, List, [], ◌∷◌, Option, Some, None, replicate, slice_get, slice_set}
+use Rattle.std.specs.Prelude.{ℕ, ◌+◌, ◌||◌, Bool, false, not, List, [], ◌∷◌, map, Option, Some, None, replicate, slice_get, slice_set}
 use Rattle.pim_isa.specs.Results.{fill_bit, with_inputs}
 use Rattle.pim_isa.specs.Steps.{bit}
 use Rattle.pim_isa.specs.declared.target.Fill.{Fill}
@@ -35,3 +35,7 @@ stepped m (Some i) = record m { row = istep m.row i; at = m.at + 1 }
 -- the state after the instruction at hand, and the same state at the end
 abbrev pub next_of : ImplyMachineView → ImplyMachineView
 next_of m = stepped m (slice_get m.program.instrs m.at)
+
+-- the bits in the output cells when all instructions are done, in order
+abbrev pub iresult_of : ImplyView → Fill → List Bool → List Bool
+iresult_of p fill bits = map (λ o. bit (iexec p.instrs (load p fill bits)) o.cell) p.outputs

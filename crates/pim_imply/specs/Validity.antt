@@ -1,5 +1,5 @@
 -- The first fault of a draft: that of the ports, else that of the instructions in order.
-use Rattle.std.specs.Prelude.{ℕ, ◌+◌, ◌==◌, ◌||◌, nat_le, if◌then◌else◌, List, [], ◌∷◌, Option, Some, None}
+use Rattle.std.specs.Prelude.{ℕ, ◌≢◌, ◌<◌, ◌+◌, ◌==◌, ◌||◌, nat_le, if◌then◌else◌, List, [], ◌∷◌, Option, Some, None}
 use Rattle.std.specs.Option.{option_map, option_or}
 use Rattle.pim_isa.specs.Validity.{bad_port}
 use Rattle.pim_imply.specs.declared.instr.ImplyInstr.{ImplyInstr}
@@ -23,3 +23,8 @@ first_instr_fault cells k (i ∷ is) = option_or (instr_fault cells k i) (first_
 -- the first fault of a draft
 abbrev pub fault_of : ImplyView → Option ImplyInvalid
 fault_of d = option_or (option_map (λ k. invalid.Port k) (bad_port (body_of d))) (first_instr_fault d.cells 0 d.instrs)
+
+-- the cells of an instruction are below the number of cells, and an `imp` has two
+abbrev pub IsFit : ℕ → ImplyInstr → Type 0
+IsFit cells (False q) = q < cells
+IsFit cells (Imp p q) = (p < cells) × (q < cells) × (p ≢ q)

@@ -2,24 +2,35 @@
 //! row, and the schedule of an and-inverter graph for it.
 #![tactic(auto)]
 
+mod compiling;
 mod draft;
 mod emit;
+mod fault;
 mod graph;
 mod instr;
 mod invalid;
+mod kept;
+mod lines;
 mod machine;
+mod parsing;
+mod ports;
 mod printing;
 mod program;
+mod reader;
 mod refusal;
 mod scheduling;
+mod section;
 #[cfg(test)]
 mod tests;
 
+pub use compiling::compile_imply;
 pub use draft::ImplyDraft;
+pub use fault::ImplyFault;
 pub use instr::ImplyInstr;
 pub use invalid::ImplyInvalid;
 pub use machine::ImplyMachine;
+pub use parsing::parse_imply;
 pub use printing::print_imply;
 pub use program::ImplyProgram;
-pub use refusal::Refusal;
+pub use refusal::{ImplyRefusal, Refusal};
 pub use scheduling::imply;

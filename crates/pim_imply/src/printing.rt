@@ -1,10 +1,12 @@
-ghost use Rattle.std.specs.Prelude.{◌≡◌, ◌++◌, OnOk, IfOk};
+ghost use Rattle.std.specs.Prelude.{◌≡◌, ℕ, ◌<◌, ◌++◌, length, take, OnOk, IfOk, Ok, Err};
+ghost use Rattle.pim_imply.specs.declared.fault.ImplyFault.TheVariants as faults;
+ghost use Rattle.pim_imply.specs.Reading.{imply_of};
 ghost use Rattle.pim_imply.specs.Text.{imply_text, instrs_text, text as text_of};
 
 use crate::instr::ImplyInstr;
 use crate::program::ImplyProgram;
 use pim_io::NoMemory;
-use pim_text::{Text, push_ports};
+use pim_text::{Text, line_laws, push_ports};
 use std::alloc::Global;
 
 /// An instruction, without its newline.
@@ -30,8 +32,13 @@ fn push_instrs(text: &mut Text, instrs: &[ImplyInstr]) -> Result<(), NoMemory>
 
 /// The text of a program. Linear in the program.
 pub fn print_imply(alloc: Global, program: &ImplyProgram) -> Result<Vec<u8>, NoMemory>
-    ensures { IfOk result (λ bytes. bytes.items ≡ text_of program.now) }
+    ensures text { IfOk result (λ bytes. bytes.items ≡ text_of program.now) }
+
+    // The text is read as the program again, and a front of it as cut off.
+    ensures again { IfOk result (λ bytes. imply_of bytes.items ≡ Ok program.now) }
+    ensures cut { IfOk result (λ bytes. (k : ℕ) → k < length bytes.items → imply_of (take k bytes.items) ≡ Err faults.Truncated) }
 {
+    line_laws();
     let mut text = Text::new(alloc);
     text.counted(b"imply 1\ncells ", program.cells())?;
     push_ports(&mut text, b"input ", program.inputs())?;

@@ -1,7 +1,7 @@
-ghost use Rattle.std.specs.Prelude.{◌≡◌, ◌+◌, ◌≤◌, length, Some, None, IfOk, IfErr, OnOk};
+ghost use Rattle.std.specs.Prelude.{◌≡◌, ◌+◌, ◌≤◌, All, length, Some, None, IfOk, IfErr, OnOk};
 ghost use Rattle.pim_isa.specs.Sound.{IsProgram};
 ghost use Rattle.pim_imply.specs.Programs.{body_of};
-ghost use Rattle.pim_imply.specs.Validity.{instr_fault, first_instr_fault, fault_of};
+ghost use Rattle.pim_imply.specs.Validity.{IsFit, instr_fault, first_instr_fault, fault_of};
 
 use crate::draft::ImplyDraft;
 use crate::instr::ImplyInstr;
@@ -70,12 +70,20 @@ impl ImplyProgram {
         self.body.outputs()
     }
 
+    /// The cells and the ports, as a program without instructions.
+    pub fn body(&self) -> &Program
+        ensures { result.now ≡ body_of self.now }
+    {
+        &self.body
+    }
+
     /// The instructions in order. Their number is that of the program's cycles.
     pub fn instrs(&self) -> &[ImplyInstr]
         ensures value { result.now ≡ self.now.instrs }
         ensures few { length self.now.instrs ≤ MAX_INSTRS }
         ensures body { IsProgram (body_of self.now) }
         ensures faultless { fault_of self.now ≡ None }
+        ensures fit { All (IsFit self.now.cells) self.now.instrs }
     {
         self.instrs.as_slice()
     }

@@ -1,6 +1,8 @@
 ghost use Rattle.std.specs.Prelude.{◌≡◌};
 ghost use Rattle.pim_imply.specs.declared.refusal.Refusal.TheVariants as refusal;
+ghost use Rattle.pim_imply.specs.declared.refusal.ImplyRefusal.TheVariants as unfit;
 
+use pim_aig::FlatFault;
 use pim_io::NoMemory;
 use thiserror::Error;
 
@@ -23,5 +25,43 @@ impl From<NoMemory> for Refusal {
 
     fn from(_error: NoMemory) -> Refusal {
         Refusal::NoMemory
+    }
+}
+
+/// Why a netlist is not compiled.
+#[derive(Clone, Copy, Debug, PartialEq, Eq, Error)]
+pub enum ImplyRefusal {
+    /// The budget is below this number of cells.
+    #[error("there are too few cells")]
+    TooFewCells {
+        /// How many cells are needed.
+        needed: u32,
+    },
+    /// The flat graph has more AND nodes than `pim_aig::MAX_ANDS`.
+    #[error("there are too many nodes")]
+    TooLarge,
+    /// There was no memory.
+    #[error("no memory")]
+    NoMemory,
+}
+
+impl From<NoMemory> for ImplyRefusal {
+    ghost from_gives = { λ _ fault. fault ≡ unfit.NoMemory };
+
+    fn from(_error: NoMemory) -> ImplyRefusal {
+        ImplyRefusal::NoMemory
+    }
+}
+
+impl From<FlatFault> for ImplyRefusal {
+    ghost use Rattle.pim_imply.specs.Compiled.{refusal_of};
+
+    ghost from_gives = { λ fault refusal. refusal ≡ refusal_of fault };
+
+    fn from(fault: FlatFault) -> ImplyRefusal {
+        match fault {
+            FlatFault::TooLarge => ImplyRefusal::TooLarge,
+            FlatFault::NoMemory => ImplyRefusal::NoMemory,
+        }
     }
 }

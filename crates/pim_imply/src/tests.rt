@@ -1,11 +1,12 @@
-//! The schedule of an AND, its text and its runs, and each fault of a draft.
+//! The schedule of an AND, its text and its runs, each fault of a draft, and one text of each kind of fault.
 
 use crate::{
-    ImplyDraft, ImplyInstr, ImplyInvalid, ImplyMachine, ImplyProgram, Refusal, imply, print_imply,
+    ImplyDraft, ImplyFault, ImplyInstr, ImplyInvalid, ImplyMachine, ImplyProgram, Refusal, imply,
+    parse_imply, print_imply,
 };
 use pim_aig::{Aig, Lit, MAX_ANDS, MAX_OUTPUTS};
 use pim_isa::{Fill, Ports};
-use std::alloc::Global;
+use std::alloc::{AllocError, Global};
 use std::test::Fail;
 
 /// The AND of two inputs, of which the second is the first operand.
@@ -112,6 +113,78 @@ fn judges_drafts(rt: HostRuntime) -> Result<(), Fail> {
         ),
     ] {
         assert_eq!(rt; fault_of(rt.alloc(), cell, instr)?, fault, "at {instr:?}");
+    }
+    Ok(())
+}
+
+/// The program of an AND, line by line.
+const AND: [&str; 12] = [
+    "imply 1",
+    "cells 4",
+    "input 0 i0",
+    "input 1 i1",
+    "output 3 o0",
+    "cycles 5",
+    "false 2",
+    "imp 1 2",
+    "imp 0 2",
+    "false 3",
+    "imp 2 3",
+    "end",
+];
+
+/// The program of an AND with this line in place of the one at a place.
+fn and_with(alloc: Global, place: usize, line: &str) -> Result<Vec<u8>, AllocError> {
+    let mut bytes = Vec::new(alloc);
+    for (at, own) in AND.iter().enumerate() {
+        let text = if at == place { line } else { own };
+        bytes.extend_from_slice(text.as_bytes())?;
+        bytes.push(b'\n')?;
+    }
+    Ok(bytes)
+}
+
+/// What is read is printed as it was.
+#[test]
+fn prints_what_is_read(rt: HostRuntime) -> Result<(), Fail> {
+    let bytes = and_with(rt.alloc(), 12, "")?;
+    assert!(rt; bytes.len() < 1000);
+    let program = parse_imply(rt.alloc(), &bytes)?;
+    let text = print_imply(rt.alloc(), &program)?;
+    assert_eq!(rt; text.as_slice(), bytes.as_slice());
+    Ok(())
+}
+
+/// One line changed.
+#[test]
+fn judges_lines(rt: HostRuntime) -> Result<(), Fail> {
+    for (place, line, fault) in [
+        (0, "imply 2", Some(ImplyFault::Line(1))),
+        (1, "cells 1048577", Some(ImplyFault::TooLarge)),
+        (
+            2,
+            "input 1 i0",
+            Some(ImplyFault::Invalid(ImplyInvalid::Port(1))),
+        ),
+        (5, "cycles 4", Some(ImplyFault::Line(11))),
+        (6, "false  2", Some(ImplyFault::Line(7))),
+        (
+            7,
+            "imp 2 2",
+            Some(ImplyFault::Invalid(ImplyInvalid::SameCell(1))),
+        ),
+        (
+            8,
+            "imp 0 4",
+            Some(ImplyFault::Invalid(ImplyInvalid::CellRange(2))),
+        ),
+        (9, "not 3 2", Some(ImplyFault::Line(10))),
+        (11, "end\nend", Some(ImplyFault::Line(13))),
+        (12, "", None),
+    ] {
+        let bytes = and_with(rt.alloc(), place, line)?;
+        assert!(rt; bytes.len() < 1000);
+        assert_eq!(rt; parse_imply(rt.alloc(), &bytes).err(), fault, "at {line:?}");
     }
     Ok(())
 }

@@ -42,7 +42,7 @@ pub low_within : (w c t : ℕ) → c < t → c * w + w ≤ t * w
 low_within w c t low = grind arith
 
 -- two words at one place are of one column
-same_column : (w c k i j : ℕ) → i < w → j < w → c * w + i ≡ k * w + j → (c ≡ k) × (i ≡ j)
+pub same_column : (w c k i j : ℕ) → i < w → j < w → c * w + i ≡ k * w + j → (c ≡ k) × (i ≡ j)
 same_column w c k i j p q e =
     elim (cases_lt c k) [
       | inl below ↦ absurd (omega (arith, low_within w c k below))
@@ -60,6 +60,14 @@ pub lane-column : (w : ℕ) (buffer : List ℕ) (c r : ℕ) → r < 64 * w → l
 unfolding lane lane_at column_in
 lane-column w buffer c r small =
     ap (λ (n : ℕ). is_set n (r % 64)) (get_or-take w (drop (c * w) buffer) (r / 64) 0 (omega arith) ∙ get_or-drop (c * w) buffer (r / 64) 0)
+
+-- a lane of a column of one word
+pub lane_at-one : (w : ℕ) (buffer : List ℕ) (c r : ℕ) → w ≡ 1 → r < 64 * w → lane_at w buffer c r ≡ is_set (get_or buffer c 0) r
+unfolding lane_at
+lane_at-one w buffer c r one small =
+    let at : c * w + r / 64 ≡ c = omega (arith, ap (λ (n : ℕ). c * n) one) in
+    let place : r % 64 ≡ r = omega arith in
+    rw (at, place) refl
 
 -- one bit was written
 pub lane_at-set : (w : ℕ) (buffer : List ℕ) (k row word : ℕ) (b : Bool) → row < 64 * w → k * w + w ≤ length buffer →
@@ -306,3 +314,68 @@ with_column_rows t k column tile small long =
     ∙ take_all (length t.buffer) new (omega arith) in
     put_rows t t t.buffer new (with_words t.buffer start column) k column refl same refl small
     (lane_at-put w k t.buffer column start refl within long)
+
+-- ---- 64 rows that stand in the same word of each column
+-- a tile of one word has a word for each column
+pub length-single : (view t : TileView) (items : List ℕ) → view ≡ t → IsTile view → items ≡ view.buffer → t.words ≡ 1 → length items ≡ t.columns
+length-single view t items is tile items_are one =
+    let single : view.words ≡ 1 = ap (λ (x : TileView). x.words) is ∙ one in
+    ap length items_are ∙ tile.whole ∙ omega (arith, ap (λ (n : ℕ). view.columns * n) single) ∙ ap (λ (x : TileView). x.columns) is
+
+-- the rows after words were written
+pub put_block_rows : (view t block_view block : TileView) (old new items words : List ℕ) (at : ℕ) → view ≡ t → items ≡ new → old ≡ view.buffer →
+    block_view ≡ block → words ≡ block_view.buffer → length words ≡ block.columns → block.words ≡ 1 → block.columns ≡ t.columns →
+    ((c : ℕ) → c < length words → get_or new (c * view.words + at) 0 ≡ get_or words c 0) →
+    ((c v : ℕ) → v < view.words → v ≢ at → get_or new (c * view.words + v) 0 ≡ get_or old (c * view.words + v) 0) →
+    (r : ℕ) → IsLane t r → vector_of (record view { buffer = items }) r ≡ cond (eqb (r / 64) at) (vector_of block (r % 64)) (vector_of t r)
+unfolding lane_at
+put_block_rows view t block_view block old new items words at is items_are old_is block_is words_are long single columns written others r row =
+    let after : TileView = record view { buffer = items } in
+    let same_words : view.words ≡ t.words = ap (λ (x : TileView). x.words) is in
+    let same_columns : view.columns ≡ t.columns = ap (λ (x : TileView). x.columns) is in
+    let place : r / 64 < view.words = omega (arith, same_words) in
+    elim (cases_eq (r / 64) at) [
+      | inl same ↦
+          rw (eq-eqb (r / 64) at same)
+          (row_from_lanes after r (vector_of block (r % 64)) (omega (arith, same_words)) (length-vector_of block (r % 64) ∙ columns ∙ sym same_columns)
+          (λ c small.
+          ap (λ (l : List ℕ). is_set (get_or l (c * view.words + r / 64) 0) (r % 64)) items_are
+          ∙ ap (λ (n : ℕ). is_set (get_or new (c * view.words + n) 0) (r % 64)) same
+          ∙ ap (λ (n : ℕ). is_set n (r % 64)) (written c (omega (arith, same_columns)))
+          ∙ ap (λ (l : List ℕ). is_set (get_or l c 0) (r % 64)) (words_are ∙ ap (λ (x : TileView). x.buffer) block_is)
+          ∙ sym (lane_at-one block.words block.buffer c (r % 64) single (omega (arith, single)))
+          ∙ sym (get_or-vector_of block (r % 64) c (omega (arith, single)) (omega (arith, same_columns)))))
+      | inr apart ↦
+          rw (ne_eqb (r / 64) at apart)
+          (row_from_lanes after r (vector_of t r) (omega (arith, same_words)) (length-vector_of t r ∙ sym same_columns)
+          (λ c small.
+          ap (λ (l : List ℕ). is_set (get_or l (c * view.words + r / 64) 0) (r % 64)) items_are
+          ∙ ap (λ (n : ℕ). is_set n (r % 64)) (others c (r / 64) place apart)
+          ∙ ap (λ (l : List ℕ). lane_at view.words l c r) old_is
+          ∙ ap (λ (x : TileView). lane_at x.words x.buffer c r) is
+          ∙ sym (get_or-vector_of t r c row (omega (arith, same_columns)))))
+    ]
+
+-- the rows of a tile of one word after the words at one place were taken
+pub take_block_rows : (view t from_view from : TileView) (buffer new items : List ℕ) (at : ℕ) → view ≡ t → items ≡ new →
+    from_view ≡ from → buffer ≡ from_view.buffer → t.words ≡ 1 → from.columns ≡ t.columns → at < from.words →
+    ((c : ℕ) → c < t.columns → get_or new c 0 ≡ get_or buffer (c * from_view.words + at) 0) →
+    (r : ℕ) → r < 64 → vector_of (record view { buffer = items }) r ≡ vector_of from (64 * at + r)
+unfolding lane_at
+take_block_rows view t from_view from buffer new items at is items_are from_is buffer_is single columns within taken r small =
+    let after : TileView = record view { buffer = items } in
+    let one : view.words ≡ 1 = ap (λ (x : TileView). x.words) is ∙ single in
+    let same_columns : view.columns ≡ t.columns = ap (λ (x : TileView). x.columns) is in
+    let row : 64 * at + r < 64 * from.words = omega arith in
+    let word : (64 * at + r) / 64 ≡ at = omega arith in
+    let place : (64 * at + r) % 64 ≡ r = omega arith in
+    row_from_lanes after r (vector_of from (64 * at + r)) (omega (arith, one)) (length-vector_of from (64 * at + r) ∙ columns ∙ sym same_columns)
+    (λ c c_small.
+    lane_at-one view.words items c r one (omega (arith, one))
+    ∙ ap (λ (l : List ℕ). is_set (get_or l c 0) r) items_are
+    ∙ ap (λ (n : ℕ). is_set n r) (taken c (omega (arith, same_columns)))
+    ∙ ap (λ (l : List ℕ). is_set (get_or l (c * from_view.words + at) 0) r) buffer_is
+    ∙ ap (λ (x : TileView). is_set (get_or x.buffer (c * x.words + at) 0) r) from_is
+    ∙ ap (λ (n : ℕ). is_set (get_or from.buffer (c * from.words + n) 0) r) (sym word)
+    ∙ ap (λ (n : ℕ). is_set (get_or from.buffer (c * from.words + (64 * at + r) / 64) 0) n) (sym place)
+    ∙ sym (get_or-vector_of from (64 * at + r) c row (omega (arith, same_columns))))

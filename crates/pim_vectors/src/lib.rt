@@ -1,6 +1,8 @@
 //! Vectors of bits from lines of text: lines from a source, one buffer for all, and tiles of vectors, 64 in a word.
 #![tactic(auto)]
 
+mod bits;
+mod blocks;
 mod bytes;
 mod fault;
 mod fits;

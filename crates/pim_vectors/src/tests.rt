@@ -86,3 +86,24 @@ fn a_vector_is_packed(rt: HostRuntime) -> Result<(), Fail> {
     assert_eq!(rt; line, *b"010");
     Ok(())
 }
+
+#[test]
+fn rows_move_between_a_tile_and_a_stage(rt: HostRuntime) -> Result<(), Fail> {
+    let mut stage = Tile::new(rt.alloc(), 2, 1)?;
+    stage.pack(3, b"11");
+    stage.pack(3, b"01");
+    stage.pack(63, b"10");
+    let mut tile = Tile::new(rt.alloc(), 2, 3)?;
+    tile.pack(64, b"11");
+    tile.pack(130, b"11");
+    tile.put_block(1, &stage);
+    assert_eq!(rt; tile.column(0), [0, 1 << 63, 4].as_slice());
+    assert_eq!(rt; tile.column(1), [0, 8, 4].as_slice());
+    stage.take_block(&tile, 2);
+    let mut line = [0; 2];
+    stage.unpack(2, &mut line);
+    assert_eq!(rt; line, *b"11");
+    stage.unpack(3, &mut line);
+    assert_eq!(rt; line, *b"00");
+    Ok(())
+}

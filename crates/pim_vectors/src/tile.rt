@@ -1,9 +1,10 @@
-ghost use Rattle.std.specs.Prelude.{◌≡◌, ℕ, ◌+◌, ◌*◌, ◌<◌, ◌≤◌, ◌==◌, if◌then◌else◌, false, List, length, replicate, slice_index_or, slice_set, IfOk};
+ghost use Rattle.std.specs.Prelude.{◌≡◌, ℕ, ◌+◌, ◌*◌, ◌/◌, ◌%◌, ◌<◌, ◌≤◌, ◌==◌, if◌then◌else◌, false, List, length, replicate, slice_index_or, slice_set, IfOk};
 ghost use Rattle.pim_io.specs.Bits.{bits_of, line_of};
 ghost use Rattle.pim_io.specs.Lanes.{lane};
 ghost use Rattle.pim_vectors.specs.Tiles.{column_of, with_column, vector_of, IsLane, IsVector, SameSizes};
 ghost use Rattle.pim_vectors.specs.inner.Kept.{IsTile};
 
+use crate::blocks::{put_words, take_words};
 use crate::lanes;
 use crate::limits::MAX_WORDS;
 use pim_io::NoMemory;
@@ -47,7 +48,8 @@ impl Tile {
         })
     }
 
-    /// Writes the bits of a line of the characters `0` and `1` into a lane. Linear in the line.
+    /// Writes the bits of a line of the characters `0` and `1` into a lane. Linear in the line; the fastest where a column is one
+    /// word.
     pub fn pack(&mut self, index: u32, line: &[u8])
         requires lane { IsLane self.old index }
         requires fits { IsVector self.old.columns line.now }
@@ -57,13 +59,38 @@ impl Tile {
         lanes::pack_lane(&mut self.buffer, self.words, index as usize, line);
     }
 
-    /// Writes the bits of a lane as the characters `0` and `1` into a line. Linear in the line.
+    /// Writes the bits of a lane as the characters `0` and `1` into a line. Linear in the line; the fastest where a column is one
+    /// word.
     pub fn unpack(&self, index: u32, line: &mut [u8])
         requires lane { IsLane self.now index }
         requires long { length line.old ≡ self.now.columns }
         ensures { line.new ≡ line_of (vector_of self.now index) }
     {
         lanes::unpack_lane(&self.buffer, self.words, index as usize, line);
+    }
+
+    /// Writes 64 lanes, those that stand in the same word of each column: the lanes of a tile of one word. Linear in the columns.
+    pub fn put_block(&mut self, at: usize, block: &Tile)
+        requires within { at < self.old.words }
+        requires single { block.now.words ≡ 1 }
+        requires columns { block.now.columns ≡ self.old.columns }
+        ensures vectors { (r : ℕ) → IsLane self.old r
+            → vector_of self.new r ≡ (if r / 64 == at then vector_of block.now (r % 64) else vector_of self.old r) }
+        ensures sizes { SameSizes self.old self.new }
+    {
+        put_words(&mut self.buffer, self.words, at, &block.buffer);
+    }
+
+    /// Takes over 64 lanes of a tile, those that stand in the same word of each column, where this tile has one word. Linear in the
+    /// columns.
+    pub fn take_block(&mut self, from: &Tile, at: usize)
+        requires within { at < from.now.words }
+        requires single { self.old.words ≡ 1 }
+        requires columns { from.now.columns ≡ self.old.columns }
+        ensures vectors { (r : ℕ) → r < 64 → vector_of self.new r ≡ vector_of from.now (64 * at + r) }
+        ensures sizes { SameSizes self.old self.new }
+    {
+        take_words(&from.buffer, from.words, at, &mut self.buffer);
     }
 
     /// The words of a column.

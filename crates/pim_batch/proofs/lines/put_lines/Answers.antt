@@ -1,5 +1,6 @@
 use borrow.Rule.Slice.PartMut.{put_mid}
-use Rattle.std.proofs.Common.{◌≡◌, ◌+◌, ◌-◌, ◌*◌, ℕ, length, ◌∙◌, arith}
+use Rattle.std.proofs.Common.{◌≡◌, ◌+◌, ◌-◌, ◌*◌, ℕ, length, subst, ◌∙◌, arith}
+use Rattle.pim_batch.specs.inner.TileLines.{IsStage}
 use Rattle.pim_batch.proofs.RowLemmas.{room_left, lines_put, length_part, length_put}
 use Rattle.pim_batch.proofs.lines.put_lines.Goals as goal
 
@@ -18,4 +19,6 @@ loop-k-preserved c =
       done = lines_put c.args.results.now c.args.from c.loop-k.k c.loop-k.at w c.loop-k.lines c.put_line.new.line (omega (arith, room)) long before.done put.value;
       left = same ∙ room;
       long = same ∙ before.long;
+      stage = subst (IsStage c.args.results.now c.put_line.new.stage) (omega arith) put.stage;
+      sizes = record { columns = put.sizes.columns ∙ before.sizes.columns; words = put.sizes.words ∙ before.sizes.words };
     }

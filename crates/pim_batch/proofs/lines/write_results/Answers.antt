@@ -15,6 +15,8 @@ loop-from-preserved g c =
           before.rest result taken faults (rw cut (c.tell_writes.ensures.both _ _ _ _ _ _ result _ _ wrote.wrote later));
       within = omega (arith, count.ensures.within, before.within);
       room = wrote.room ∙ before.room;
+      stage = wrote.stage;
+      sizes = record { columns = wrote.sizes.columns ∙ before.sizes.columns; words = wrote.sizes.words ∙ before.sizes.words };
     }
 
 pub returns-in_err-write_lanes-clause-wrote : goal.returns-in_err-write_lanes-clause-wrote

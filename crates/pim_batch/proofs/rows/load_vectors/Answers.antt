@@ -1,4 +1,5 @@
 use Rattle.std.proofs.Common.{◌<◌, length, ap, sym, ◌∙◌, arith}
+use Rattle.pim_io.specs.Lanes.{lane}
 use Rattle.pim_batch.proofs.RowLemmas.{port_within, loaded_more, frame_then}
 use Rattle.pim_batch.proofs.rows.load_vectors.Goals as goal
 
@@ -15,7 +16,7 @@ loop-k-preserved c =
     let frame = c.loop-k.invariant.frame in
     record {
       rows = λ r small.
-          loaded_more items.result.now c.args.vectors.now r c.loop-k.k c.port-item.result c.column.result.now _ _ _ c.port-item.is c.loop-k-test.true
+          loaded_more items.result.now c.args.vectors.now r c.loop-k.k c.port-item.result (lane c.column.result.now r) _ _ _ c.port-item.is c.loop-k-test.true
           (c.requires.columns ∙ sym (ap length items.ensures.value)) (c.column.ensures.lanes r (omega (arith, c.requires.words, c.fill.ensures.frame.words)))
           (c.put_column.ensures.rows r (omega (arith, frame.words))) (c.loop-k.invariant.rows r small);
       frame = frame_then _ _ _ frame c.put_column.ensures.frame;

@@ -1,11 +1,9 @@
-use Rattle.std.proofs.Common.{refl}
 use Rattle.pim_batch.proofs.BatchLemmas.{is_full, rows_within}
 use Rattle.pim_batch.proofs.batch.BatchExecutor.is_full.Goals as goal
 
 pub returns-clause-full : goal.returns-clause-full
-returns-clause-full c =
-    is_full _ c.args.self.now c.self.inside.vectors c.self.inside.rows c.self.inside.most c.self.view_is refl c.self.invariant.most
+returns-clause-full c = is_full _ c.args.self.now c.count.result c.self.inside.most c.self.view_is c.count.ensures.value c.self.invariant.most
 
 pub returns-clause-within : goal.returns-clause-within
 returns-clause-within c =
-    rows_within _ c.args.self.now c.self.inside.vectors c.self.inside.rows c.self.view_is refl c.self.invariant.row_room
+    rows_within _ c.args.self.now c.count.result c.self.inside.vectors.tile.words c.self.view_is c.count.ensures.value c.self.invariant.vector_words c.count.ensures.within

@@ -1,0 +1,42 @@
+ghost use Rattle.std.specs.Prelude.{◌≡◌};
+ghost use Rattle.pim_imply.specs.declared.fault.ImplyFault.TheVariants as faults;
+
+use crate::invalid::ImplyInvalid;
+use pim_io::NoMemory;
+use thiserror::Error;
+
+/// Why bytes are not the text of a program. Lines are counted from 1.
+#[derive(Clone, Copy, Debug, PartialEq, Eq, Error)]
+pub enum ImplyFault {
+    /// This line is the first that may not stand where it stands, or is not spelled as it is to be.
+    #[error("a line is wrong")]
+    Line(u32),
+    /// The program is not valid.
+    #[error("the program is not valid")]
+    Invalid(ImplyInvalid),
+    /// The program has more than `MAX_CELLS` cells.
+    #[error("there are too many cells")]
+    TooLarge,
+    /// The bytes end before the line `end`.
+    #[error("the bytes end too early")]
+    Truncated,
+    /// There was no memory.
+    #[error("no memory")]
+    NoMemory,
+}
+
+impl From<NoMemory> for ImplyFault {
+    ghost from_gives = { λ _ fault. fault ≡ faults.NoMemory };
+
+    fn from(_error: NoMemory) -> ImplyFault {
+        ImplyFault::NoMemory
+    }
+}
+
+impl From<ImplyInvalid> for ImplyFault {
+    ghost from_gives = { λ invalid fault. fault ≡ faults.Invalid invalid };
+
+    fn from(invalid: ImplyInvalid) -> ImplyFault {
+        ImplyFault::Invalid(invalid)
+    }
+}

@@ -1,0 +1,16 @@
+/// Which lines may come next in the text of a program.
+#[derive(Clone, Copy, Debug, PartialEq, Eq)]
+pub enum Section {
+    /// The form.
+    Form,
+    /// The number of cells.
+    Cells,
+    /// An input, an output, or the number of cycles.
+    Inputs,
+    /// An output, or the number of cycles.
+    Outputs,
+    /// As many instructions as this, and then `end`.
+    Instrs(u32),
+    /// None.
+    Ended,
+}

@@ -1,5 +1,0 @@
-use Rattle.pim_vectors.proofs.TileLemmas.{is_set-shifted}
-use Rattle.pim_vectors.proofs.lanes.bit.Goals as goal
-
-pub returns : goal.returns
-returns c = is_set-shifted c.args.word c.args.place
