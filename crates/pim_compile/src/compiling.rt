@@ -41,6 +41,7 @@ pub fn need(alloc: Global, net: &Net, target: Target) -> Result<u32, FlatFault>
     ensures need { IfOk result (λ cells. cells ≡ need net.now target) }
     ensures coarse { IfOk result (λ cells. cells ≤ coarse_need net.now target) }
     ensures accepted { OnOk result (ands net.now ≤ MAX_ANDS) }
+    ensures counted { OnOk result (length (flat net.now).ands ≡ ands net.now) }
     ensures fault { IfErr result (λ fault. Says fault (ands net.now)) }
 {
     let aig = flatten(alloc, net)?;
