@@ -5,3 +5,4 @@ pub mod Lent
 pub mod Digits
 pub mod Bounds
 pub mod Adders
+pub mod Summed

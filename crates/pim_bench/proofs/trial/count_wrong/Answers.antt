@@ -1,7 +1,6 @@
-use Rattle.std.proofs.Common.{◌≡◌, ◌∙◌, ◌+◌, ◌-◌, ◌*◌, ℕ, ap, arith, sym}
+use Rattle.std.proofs.Common.{◌≡◌, ◌∙◌, ◌+◌, ◌-◌, ◌*◌, ℕ, ap, arith}
 use Rattle.pim_adder.specs.Drawn.{RowsView}
 use Rattle.pim_isa.specs.Programs.{ProgramView}
-use Rattle.pim_bench.specs.Trials.{wrong_of}
 use Rattle.pim_bench.specs.declared.trial.TheConstants.{LANES, ROWS}
 use Rattle.pim_bench.specs.inner.Executed.{TrialView, later}
 use Rattle.pim_bench.proofs.Rows.{all_wrong, none_wrong, together_wrong, wrong_in, wrong_is}

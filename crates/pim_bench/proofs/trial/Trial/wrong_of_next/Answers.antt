@@ -1,4 +1,4 @@
-use Rattle.std.proofs.Common.{rules, ◌≡◌, ◌∙◌, ◌+◌, ◌*◌, ap, arith, count_by, length, subst, sym}
+use Rattle.std.proofs.Common.{rules, ◌≡◌, ◌∙◌, ap, arith, count_by, length, subst, sym}
 use Rattle.pim_adder.specs.Drawn.{RowsView}
 use Rattle.pim_bench.specs.Trials.{is_wrong, rows_from}
 use Rattle.pim_bench.specs.declared.trial.TheConstants.{LANES}
