@@ -10,6 +10,9 @@ use Rattle.pim_isa.specs.declared.instr.Instr.TheVariants.{Init, Nor}
 use Rattle.pim_isa.specs.Programs.{ProgramView}
 use Rattle.pim_vectors.specs.Tiles.{TileView, vector_of}
 use Rattle.pim_io.specs.Lanes.{is_set, lane, column_in}
+use Rattle.pim_imply.specs.Programs.{ImplyView}
+use Rattle.pim_imply.specs.declared.instr.ImplyInstr.TheVariants.{False, Imp}
+use Rattle.pim_batch.specs.ImplyTables.{imply_line, imply_rows}
 use Rattle.pim_batch.specs.Tables.{result_line, table, tile_words, tile_rows}
 use Rattle.pim_batch.specs.inner.TileLines.{row_line, row_lines}
 
@@ -81,3 +84,26 @@ third_line = refl
 first_lines : row_lines two_columns 2 ≡ codes "10\n01\n"
 unfolding vector_of column_in lane is_set
 first_lines = refl
+
+-- ---- the IMPLY machine
+
+abbrev imply_program : ImplyView
+imply_program = record {
+  cells = 4;
+  inputs = port 0 ∷ port 1 ∷ [];
+  outputs = port 3 ∷ [];
+  instrs = False 2 ∷ Imp 1 2 ∷ Imp 0 2 ∷ False 3 ∷ Imp 2 3 ∷ [];
+}
+
+and_of_ones : imply_line imply_program Zeros (true ∷ true ∷ []) ≡ codes "1\n"
+and_of_ones = refl
+
+and_of_one_and_zero : imply_line imply_program Ones (true ∷ false ∷ []) ≡ codes "0\n"
+and_of_one_and_zero = refl
+
+rows_of_two_inputs : imply_rows 2 ≡ 4096
+rows_of_two_inputs = refl
+
+-- an input of 64 MiB has 64 lines of as many characters, the last one without its newline
+rows_of_many_inputs : imply_rows 1048575 ≡ 66
+rows_of_many_inputs = refl
