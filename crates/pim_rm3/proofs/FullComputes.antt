@@ -209,7 +209,7 @@ pub operand_off : (g : MigView) (a : AllotmentView) (p l : ℕ) (e : Lit) → Vo
 operand_off g a p l e t b read other some =
     let small : e.0 < 2 * size g = omega (arith, t.there) in
     λ same. operand_apart g a p e t.ready.sound t.within small read (λ above taken. not_taken g l e t.is other (sym t.takes ∙ taken)) some
-        (same ∙ ap (λ (n : ℕ). get_or a.cells n 0) (sym t.here))
+    (same ∙ ap (λ (n : ℕ). get_or a.cells n 0) (sym t.here))
 
 operand_is : (g : MigView) (a : AllotmentView) (bits m : List Bool) (p l : ℕ) (e : Lit) → VoteAt g a bits m p l → e.0 < l → IsRead g a p e → ((role_at g l).over ≡ true → (role_at g l).z.0 ≢ 2 * (e.0 / 2)) → OperandIs g a bits m p (get_or a.cells (gate_number l) 0) e
 operand_is g a bits m p l e t b read other =
@@ -249,7 +249,7 @@ temporary_off g a p l e t wants =
     let fl = full_order g in
     let kid = temporary_read g a p l e t wants in
     λ same. t.ready.sound.allotted.apart p (2 * l) t.within (read_before v fl p (2 * l) t.ready.sound.placed t.within kid) (read_needed v fl p (2 * l) t.within kid)
-        (λ taken. temporary_not_taken g l t.is (sym t.takes ∙ taken)) (same ∙ ap (λ (n : ℕ). get_or a.cells n 0) (sym t.here))
+    (λ taken. temporary_not_taken g l t.is (sym t.takes ∙ taken)) (same ∙ ap (λ (n : ℕ). get_or a.cells n 0) (sym t.here))
 
 pub temporary_within : (g : MigView) (a : AllotmentView) (p l : ℕ) (e : Lit) → VotePlace g a p l → temporary (role_at g l) ≡ Some e → get_or a.cells (2 * l) 0 < a.width
 temporary_within g a p l e t wants =

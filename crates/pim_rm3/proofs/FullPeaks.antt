@@ -41,7 +41,7 @@ once_apart : (earlier later : List ℕ) → ((p : ℕ) → p < length later → 
 once_apart earlier [] once = tt
 once_apart earlier (x ∷ later) once = (
   no_true (has earlier x) (λ t. false≢true (sym (once 0 (omega arith)) ∙ has_front earlier [] x t)),
-  once_apart (earlier ++ x ∷ []) later (λ p h. moved_on earlier (take p later) x (get_or later p 0) (once (suc p) (omega arith)))
+  once_apart (earlier ++ x ∷ []) later (λ p h. moved_on earlier (take p later) x (get_or later p 0) (once (suc p) (omega arith))),
 )
 
 -- ---- counts
@@ -115,7 +115,7 @@ peak_cons g earlier rest x (Some e) is there apart more =
     let whole : flat g (x ∷ rest) ≡ all = ap (λ (o : Option Lit). (own_temporary x o ++ gate_number x ∷ []) ++ later) is in
     let here = count_flat g (x ∷ rest) earlier all (λ n h. ap (λ (ys : List ℕ). needed v ys n) whole ∙ h) there apart in
     let next = count_flat g (x ∷ rest) earlier (gate_number x ∷ later) (λ n h.
-        ap (λ (ys : List ℕ). needed v ys n) whole ∙ or_more (has (kids_of v (2 * x)) n) (read_by v (gate_number x ∷ later) n) (has v.roots n) h) there apart in
+    ap (λ (ys : List ℕ). needed v ys n) whole ∙ or_more (has (kids_of v (2 * x)) n) (read_by v (gate_number x ∷ later) n) (has v.roots n) h) there apart in
     let grown : flat g (earlier ++ x ∷ []) ≡ flat g earlier ++ 2 * x ∷ (gate_number x ∷ []) = sym (flat_map_more (with_temporary g) [] earlier x) ∙ ap (λ (o : Option Lit). flat g earlier ++ (own_temporary x o ++ gate_number x ∷ [])) is in
     let joined : (flat g earlier ++ 2 * x ∷ []) ++ gate_number x ∷ [] ≡ flat g (earlier ++ x ∷ []) = append_assoc (flat g earlier) (2 * x ∷ []) (gate_number x ∷ []) ∙ sym grown in
     let on = ap (λ (ys : List ℕ). peak_from v ys later) joined in

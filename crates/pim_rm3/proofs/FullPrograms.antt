@@ -81,9 +81,10 @@ load_fits : (g : MigView) (a : AllotmentView) (p : ℕ) (e : Lit) → IsReady g 
 load_fits g a p e s h t =
     let z = cell_at (placing g a) (gate_at (placing g a) p) in
     let n = gate_at (placing g a) p in
-    fits_load g.inputs (cells g a) g.inputs a.width z e (s.sound.allotted.from n (has_whole (full_order g) p h)) (s.sound.allotted.within n (has_whole (full_order g) p h)) (λ some.
-        (operand_within g a p e s.sound h t.there t.read some,
-         operand_apart g a p e s.sound h t.there t.read (λ above taken. none_some (gate_number (2 * (e.0 / 2))) (sym t.none ∙ taken)) some))
+    fits_load g.inputs (cells g a) g.inputs a.width z e (s.sound.allotted.from n (has_whole (full_order g) p h)) (s.sound.allotted.within n (has_whole (full_order g) p h)) (λ some. (
+      operand_within g a p e s.sound h t.there t.read some,
+      operand_apart g a p e s.sound h t.there t.read (λ above taken. none_some (gate_number (2 * (e.0 / 2))) (sym t.none ∙ taken)) some,
+    ))
 
 complement_loads : (g : MigView) (a : AllotmentView) (p l : ℕ) → l < 2 * size g → l % 2 ≡ 1 → step_of g l ≡ step.Complement (record { 0 = l }) → get_or (full_order g) p 0 ≡ gate_number l → taken_at (full_over g) p ≡ step_takes (step_of g l) → LoadsOne g a p (record { 0 = l })
 complement_loads g a p l b odd is here takes =
@@ -306,14 +307,14 @@ vote_fits g a p l t =
     let lo = t.ready.sound.allotted.from (gate_number l) in_order in
     let hi = t.ready.sound.allotted.within (gate_number l) in_order in
     let fit = λ (e : Lit) (b : e.0 < l) (read : IsRead g a p e) (other : r.over ≡ true → r.z.0 ≢ 2 * (e.0 / 2)) (some : 0 < e.0 / 2).
-        both_fit a.width z (cell_of g.inputs cs e) (operand_within g a p e t.ready.sound t.within (let q = t.there in omega arith) read some) (operand_off g a p l e t b read other some) in
+    both_fit a.width z (cell_of g.inputs cs e) (operand_within g a p e t.ready.sound t.within (let q = t.there in omega arith) read some) (operand_off g a p l e t b read other some) in
     let third = third_fits g a z r lo hi (λ bare. fit r.z o.z_below (read_at g a p l r.z t by_third) (λ sure. absurd (false≢true (sym bare ∙ sure)))) in
     let first = first_fits g a h z r.p (λ sure.
-        let wants : temporary r ≡ Some r.p = ap (λ (b : Bool). cond b (Some r.p) (cond (is_plain r.q) (Some r.q) None)) sure in
-        (temporary_within g a p l r.p t wants, temporary_off g a p l r.p t wants)) (fit r.p o.p_below (read_at g a p l r.p t by_first) (λ over same. third_other g l r.p over same o.pz)) in
+    let wants : temporary r ≡ Some r.p = ap (λ (b : Bool). cond b (Some r.p) (cond (is_plain r.q) (Some r.q) None)) sure in
+    (temporary_within g a p l r.p t wants, temporary_off g a p l r.p t wants)) (fit r.p o.p_below (read_at g a p l r.p t by_first) (λ over same. third_other g l r.p over same o.pz)) in
     let second = second_fits g a h z r.q (λ sure.
-        let wants : temporary r ≡ Some r.q = ap (λ (b : Bool). cond b (Some r.p) (cond (is_plain r.q) (Some r.q) None)) (not_both g l sure) ∙ ap (λ (b : Bool). cond b (Some r.q) None) sure in
-        (temporary_within g a p l r.q t wants, temporary_off g a p l r.q t wants)) (fit r.q o.q_below (read_at g a p l r.q t by_second) (λ over same. third_other g l r.q over same o.qz)) in
+    let wants : temporary r ≡ Some r.q = ap (λ (b : Bool). cond b (Some r.p) (cond (is_plain r.q) (Some r.q) None)) (not_both g l sure) ∙ ap (λ (b : Bool). cond b (Some r.q) None) sure in
+    (temporary_within g a p l r.q t wants, temporary_off g a p l r.q t wants)) (fit r.q o.q_below (read_at g a p l r.q t by_second) (λ over same. third_other g l r.q over same o.qz)) in
     let po = first_operand g.inputs cs h r.p in
     let qo = second_operand g.inputs cs h r.q in
     let F : List Instr → Type 0 = All (Fits g.inputs a.width) in

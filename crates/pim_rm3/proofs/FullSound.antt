@@ -280,8 +280,8 @@ full_sound g s =
             let t = taker g x c (sym a.takes ∙ e) in
             let z = (role_at g x).z.0 in
             no_true (needed v (drop (p + 1) fl) c) (λ n.
-                let again : needed v rest (gate_number z) ≡ true = sym (ap (λ (ys : List ℕ). needed v ys c) after ∙ ap (needed v rest) t.same) ∙ n in
-                false≢true (sym (spent g a.i c s a.within t) ∙ needed_alone g (drop (a.i + 1) xs) z (λ l q. below g l s (in_drop xs (a.i + 1) l q)) again))
+            let again : needed v rest (gate_number z) ≡ true = sym (ap (λ (ys : List ℕ). needed v ys c) after ∙ ap (needed v rest) t.same) ∙ n in
+            false≢true (sym (spent g a.i c s a.within t) ∙ needed_alone g (drop (a.i + 1) xs) z (λ l q. below g l s (in_drop xs (a.i + 1) l q)) again))
         | inr t ↦ absurd (none_some (taken_at (full_over g) p) c t.takes e)
       ];
     }
