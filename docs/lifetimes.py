@@ -2,7 +2,7 @@
 """docs/lifetimes.py BIN: draws when each cell of a program is in use, as docs/lifetimes_*.svg, from what `explain` writes.
 
 Each cell has a line, each of its lives a bar, and the cycles go across. It compiles the full adder and the 8-bit adder of
-examples/. docs/lifetimes.py BIN FILE draws the program of FILE instead, to standard output.
+examples/, and merges the full adder with the AND of two inputs (docs/sharing.svg). docs/lifetimes.py BIN FILE draws the program of FILE instead, to standard output.
 """
 import re
 import subprocess
@@ -20,7 +20,7 @@ DRAWN = [
 ]
 
 STYLE = """text { font: 11px sans-serif; fill: #333 } .title { font: bold 12px sans-serif } .x { text-anchor: middle } .y { text-anchor: end }
-.line { stroke: #e4e4e4 } .in { fill: #7a8793 } .work { fill: #1f6f8b } .out { fill: #c8671b }
+.line { stroke: #e4e4e4 } .window { stroke: #333; stroke-dasharray: 4 3 } .in { fill: #7a8793 } .work { fill: #1f6f8b } .out { fill: #c8671b }
 .unread { fill: none; stroke: #1f6f8b; stroke-width: 0.8 }"""
 
 
@@ -52,8 +52,8 @@ def ticks(most):
     return range(0, most, step)
 
 
-def panel(top, title, text):
-    """One program's diagram and its height."""
+def panel(top, title, text, windows=()):
+    """One program's diagram and its height. Before each of these cells a window begins."""
     lives, cells, cycles = lives_of(text)
     scale = (WIDTH - LEFT - RIGHT) / (cycles + 1)
 
@@ -63,6 +63,7 @@ def panel(top, title, text):
     base = top + TOP + ROW * cells
     parts = [f'<text x="{LEFT}" y="{top + 18}" class="title">{title}: {cells} cells, {cycles} cycles</text>']
     parts.append(f'<text x="{LEFT - 8}" y="{top + TOP - 8}" class="y">cell</text>')
+    parts += [f'<path class="window" d="M{LEFT - 40} {top + TOP + ROW * cell}H{WIDTH - RIGHT}"/>' for cell in windows]
     for cycle in ticks(cycles):
         parts.append(f'<path class="line" d="M{x(cycle + 0.5):.1f} {top + TOP - 4}V{base + 4}"/>')
         parts.append(f'<text x="{x(cycle + 0.5):.1f}" y="{top + TOP - 8}" class="x">{cycle}</text>')
@@ -86,8 +87,8 @@ def key(top):
 def picture(panels):
     """The whole file, of titles and explanations."""
     parts, top = [], 0
-    for title, text in panels:
-        drawn, high = panel(top, title, text)
+    for shown in panels:
+        drawn, high = panel(top, *shown)
         parts, top = parts + drawn, top + high
     parts += key(top - 8)
     size = f'viewBox="0 0 {WIDTH} {top + 6}" width="{WIDTH}" height="{top + 6}"'
@@ -99,12 +100,43 @@ def explained(binary, path):
     return subprocess.run([binary, "explain", path], capture_output=True, check=True).stdout.decode()
 
 
+def called(binary, *words, given):
+    """What a call writes that is given these bytes."""
+    return subprocess.run([binary, *words], input=given, capture_output=True, check=True).stdout
+
+
 def compiled(binary, netlist, cells):
-    command = [binary, "compile", "--target", "magic", "--cells", str(cells)]
-    with tempfile.NamedTemporaryFile(suffix=".pim") as program:
-        program.write(subprocess.run(command, input=netlist.read_bytes(), capture_output=True, check=True).stdout)
-        program.flush()
-        return explained(binary, program.name)
+    """The program of a netlist of examples/."""
+    given = (ROOT / "examples" / netlist).read_bytes()
+    return called(binary, "compile", "--target", "magic", "--cells", str(cells), given=given)
+
+
+def lives_written(binary, program):
+    """What `explain` says of these bytes."""
+    with tempfile.NamedTemporaryFile(suffix=".pim") as file:
+        file.write(program)
+        file.flush()
+        return explained(binary, file.name)
+
+
+def counted(program, word):
+    """The number in the line of a program that begins with this word."""
+    return int(re.search(rf"^{word} (\d+)$", program.decode(), re.MULTILINE)[1])
+
+
+def shared(binary, parts):
+    """Programs merged into one row, each in turn as long as it has instructions left."""
+    left, turns = [counted(part, "cycles") for part in parts], []
+    while any(left):
+        for number, more in enumerate(left):
+            if more:
+                turns.append(number)
+                left[number] -= 1
+    with tempfile.NamedTemporaryFile(suffix=".pim") as file:
+        file.write(b"".join(parts))
+        file.flush()
+        cells = sum(counted(part, "cells") for part in parts)
+        return called(binary, "share", file.name, "--cells", str(cells), given="".join(f"{turn}\n" for turn in turns).encode())
 
 
 def main():
@@ -113,8 +145,11 @@ def main():
         sys.stdout.write(picture([(Path(sys.argv[2]).name, explained(binary, sys.argv[2]))]))
         return
     for name, title, netlist, budgets in DRAWN:
-        panels = [(title, compiled(binary, ROOT / "examples" / netlist, cells)) for cells in budgets]
+        panels = [(title, lives_written(binary, compiled(binary, netlist, cells))) for cells in budgets]
         (ROOT / "docs" / f"lifetimes_{name}.svg").write_text(picture(panels))
+    parts = [compiled(binary, "full_adder.aag", 9), compiled(binary, "and2.aag", 5)]
+    panels = [("Full adder and AND in turns", lives_written(binary, shared(binary, parts)), [counted(parts[0], "cells")])]
+    (ROOT / "docs" / "sharing.svg").write_text(picture(panels))
 
 
 if __name__ == "__main__":

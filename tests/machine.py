@@ -3,7 +3,7 @@
 
 def parsed(text):
     """A program's text: the number of cells, the cells of the inputs and of the outputs, and the lines of the instructions."""
-    lines = text.decode().split("\n")
+    lines = text.decode("latin1").split("\n")
     ports = {kind: [int(line.split(" ")[1]) for line in lines if line.startswith(kind + " ")] for kind in ("input", "output")}
     begin = next(k for k, line in enumerate(lines) if line.startswith("cycles "))
     cells = next(line for line in lines if line.startswith("cells "))

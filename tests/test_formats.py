@@ -1,7 +1,7 @@
 """The tables of docs/formats.md that give a file and its note."""
 import re
 
-from program import ROOT, equal, stops
+from program import ROOT, equal, gives, stops
 
 PAGE = (ROOT / "docs" / "formats.md").read_text()
 
@@ -34,3 +34,17 @@ def test_the_examples_of_lines(pim, folder):
         netlists = ["".join(line + "\n" for line in lines).encode() for lines in texts]
         answers = [pim("compile", "--target", "magic", "--cells", "9", stdin=netlist) for netlist in netlists]
         equal(f"the answer to {texts[0]}", answers[0], answers[1])
+
+
+def test_the_notes_of_imply_programs(pim, folder):
+    """Each IMPLY program of the table gets the note that stands beside it, or runs."""
+    tried = 0
+    for program, note in rows_below("| program | note |"):
+        (folder / "it.imply").write_text("".join(line + "\n" for line in re.findall(r"`([^`]*)`", program)))
+        answer = pim("implyrun", folder / "it.imply", stdin=b"1\n")
+        if note == "none":
+            gives(answer, b"1\n")
+        else:
+            stops(answer, 1, "bad input: " + note.strip("`"))
+        tried += 1
+    equal("whether the table was found", tried, 7)

@@ -24,14 +24,18 @@ def test_completion(pim, folder):
     """Commands, options, their values and files are offered where they may stand."""
     (folder / "my.pim").write_text("")
     equal("commands", completed(folder, "co"), ["compile", "convert"])
+    equal("levels", completed(folder, "compile", "--level", ""), ["0", "1", "2"])
     equal("options", completed(folder, "compile", "--"), ["--cells", "--level", "--target"])
     equal("targets", completed(folder, "compile", "--target", ""), ["magic", "plim"])
     equal("a number", completed(folder, "compile", "--cells", ""), [])
     equal("forms", completed(folder, "convert", "--form", ""), ["1", "2"])
-    for command in "run", "list", "explain", "debug", "prove":
+    for command in "run", "list", "explain", "debug", "prove", "share", "implyrun":
         equal(f"files of {command}", completed(folder, command, "m"), ["my.pim"])
-    for command in "run", "debug":
+    for command in "run", "debug", "implyrun":
         equal(f"options of {command}", completed(folder, command, "my.pim", ""), ["--fill"])
+    for command, last in ("share", ["my.pim", ""]), ("imply", [""]):
+        equal(f"options of {command}", completed(folder, command, *last), ["--cells"])
+    equal("options of explain", completed(folder, "explain", "my.pim", ""), ["--tree"])
     equal("fillings", completed(folder, "run", "my.pim", "--fill", "o"), ["ones"])
 
 

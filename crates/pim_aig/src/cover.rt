@@ -1,4 +1,4 @@
-ghost use Rattle.std.specs.Prelude.{◌≡◌, ◌<◌, ◌≤◌, [], List, All, length, IfErr, IfOk};
+ghost use Rattle.std.specs.Prelude.{◌≡◌, ◌<◌, ◌≤◌, [], List, All, length, IfErr, IfOk, OnOk};
 ghost use Rattle.pim_aig.specs.Chains.{chain, cover_from, row_literals, rows_from};
 ghost use Rattle.pim_net.specs.Tables.{values as literals_of};
 ghost use Rattle.pim_aig.specs.Faults.{Says};
@@ -9,7 +9,6 @@ ghost use Rattle.pim_aig.specs.inner.Growing.{Grows};
 use crate::chain::{chain, link};
 use crate::{Aig, FlatFault, Lit};
 use pim_net::{Bit3, Cover, SignalTable};
-use std::alloc::Global;
 
 /// The chain of the literals that a row asks: a column's literal where the cell is one, its complement where it is zero.
 fn row_chain(
@@ -39,35 +38,36 @@ fn row_chain(
     Ok(last.unwrap_or(Lit::TRUE))
 }
 
-/// The complements of the rows' chains, one after another.
-fn rows(
-    alloc: Global,
+/// Puts the complements of the rows' chains, one after another, in the place of other literals.
+fn put_rows(
     aig: &mut Aig,
     table: &SignalTable<Lit>,
     cover: &Cover,
-) -> Result<Vec<Lit>, FlatFault>
+    literals: &mut Vec<Lit>,
+) -> Result<(), FlatFault>
     requires there { AreOfFirst (nodes aig.old) (literals_of table.now) }
-    ensures made { IfOk result (λ ls. record { ands = aig.new.ands; lits = ls.items }
+    ensures made { OnOk result (record { ands = aig.new.ands; lits = literals.new.items }
         ≡ rows_from aig.old.inputs (literals_of table.now) cover.now.ins aig.old.ands [] cover.now.rows) }
-    ensures there { IfOk result (λ ls. All (IsOfFirst (nodes aig.new)) ls.items) }
+    ensures there { OnOk result (All (IsOfFirst (nodes aig.new)) literals.new.items) }
     ensures grown { Grows aig.old aig.new }
     ensures fault { IfErr result (λ fault. Says fault
         (length (rows_from aig.old.inputs (literals_of table.now) cover.now.ins aig.old.ands [] cover.now.rows).ands)) }
 {
-    let mut literals = Vec::new(alloc);
+    literals.clear();
     for k in 0..cover.row_count() {
         let chain = row_chain(aig, table, cover.ins(), cover.row(k))?;
         literals.push(chain.complement())?;
     }
-    Ok(literals)
+    Ok(())
 }
 
-/// The literal of a cover: the complement of the chain of its rows' complements, and with phase 0 complemented once more.
+/// The literal of a cover: the complement of the chain of its rows' complements, and with phase 0 complemented once more. Those
+/// complements are put in the place of other literals.
 pub(crate) fn cover_literal(
-    alloc: Global,
     aig: &mut Aig,
     table: &SignalTable<Lit>,
     cover: &Cover,
+    literals: &mut Vec<Lit>,
 ) -> Result<Lit, FlatFault>
     requires there { AreOfFirst (nodes aig.old) (literals_of table.now) }
     ensures made { IfOk result (λ l. record { ands = aig.new.ands; lit = l }
@@ -77,8 +77,8 @@ pub(crate) fn cover_literal(
     ensures fault { IfErr result (λ fault. Says fault
         (length (cover_from aig.old.inputs (literals_of table.now) aig.old.ands cover.now).ands)) }
 {
-    let rows = rows(alloc, aig, table, cover)?;
-    let off = chain(aig, &rows)?;
+    put_rows(aig, table, cover, literals)?;
+    let off = chain(aig, literals)?;
     let on = off.complement();
     Ok(if cover.phase() { on } else { on.complement() })
 }

@@ -37,12 +37,12 @@ fn input_table(
     Ok(table)
 }
 
-/// Makes the AND nodes of one equation, and puts its literal into the table.
+/// Makes the AND nodes of one equation, and puts its literal into the table. The list is for the literals of its rows.
 fn equation(
-    alloc: Global,
     aig: &mut Aig,
     table: &mut SignalTable<Lit>,
     equation: &Equation,
+    literals: &mut Vec<Lit>,
 ) -> Result<(), FlatFault>
     requires there { AreOfFirst (nodes aig.old) (literals_of table.old) }
     ensures made { OnOk result (record { ands = aig.new.ands; lits = literals_of table.new }
@@ -52,7 +52,7 @@ fn equation(
     ensures fault { IfErr result (λ fault. Says fault
         (length (equation_from aig.old.inputs (literals_of table.old) aig.old.ands (Some equation.now)).ands)) }
 {
-    let literal = cover_literal(alloc, aig, table, &equation.cover)?;
+    let literal = cover_literal(aig, table, &equation.cover, literals)?;
     table.put(equation.sig, literal)?;
     Ok(())
 }
@@ -73,8 +73,9 @@ fn equations(
         (length (equations_from aig.old.inputs net.now.equations (literals_of table.old) aig.old.ands net.now.topo).ands)) }
 {
     let equations = net.equations();
+    let mut literals = Vec::new(alloc);
     for k in net.topo() {
-        equation(alloc, aig, table, &equations[*k as usize])?;
+        equation(aig, table, &equations[*k as usize], &mut literals)?;
     }
     Ok(())
 }

@@ -9,7 +9,7 @@ use pim_lanes::Bank;
 use pim_vectors::Tile;
 
 /// Makes each row of a bank the row at the start for that row's vector.
-pub(crate) fn load_vectors(bank: &mut Bank, program: &Program, fill: Fill, vectors: &Tile)
+pub fn load_vectors(bank: &mut Bank, program: &Program, fill: Fill, vectors: &Tile)
     requires cells { bank.old.cells ≡ program.now.cells }
     requires columns { vectors.now.columns ≡ length program.now.inputs }
     requires words { vectors.now.words ≡ bank.old.words }
@@ -23,7 +23,7 @@ pub(crate) fn load_vectors(bank: &mut Bank, program: &Program, fill: Fill, vecto
 }
 
 /// Makes each row of a tile the bits of the output cells in that row of a bank.
-pub(crate) fn gather_results(results: &mut Tile, program: &Program, bank: &Bank)
+pub fn gather_results(results: &mut Tile, program: &Program, bank: &Bank)
     requires cells { bank.now.cells ≡ program.now.cells }
     requires columns { results.old.columns ≡ length program.now.outputs }
     requires words { results.old.words ≡ bank.now.words }

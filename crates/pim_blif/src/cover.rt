@@ -6,21 +6,26 @@ ghost use Rattle.pim_blif.specs.inner.Judging.{empty_cover, first_value, with_ro
 use crate::fault::BlifFault;
 use crate::row::read_row;
 use crate::word::Word;
+use pim_io::NoMemory;
 use pim_net::{Bit3, Cover, Equation};
 use std::alloc::Global;
 
-/// The equation of a cover without rows, of which the last of these signals is driven by the others, if there is one. It
-/// keeps the list that it is given, and takes no memory.
-pub(crate) fn empty_cover(alloc: Global, mut signals: Vec<u32>) -> Option<Equation>
-    requires few { length signals.items ≤ MAX_COLUMNS }
-    requires below { All (λ s. s < MAX_SIGNALS) signals.items }
-    ensures some { is_some result ≡ nat_lt 0 (length signals.items) }
-    ensures exact { IfSome result (λ e. e ≡ empty_cover signals.items) }
-    ensures below { IfSome result (λ e. e.sig < MAX_SIGNALS) }
+/// The equation of a cover without rows, of which the last of these signals is driven by the others, if there is one. Linear
+/// in them.
+pub(crate) fn empty_cover(alloc: Global, signals: &[u32]) -> Result<Option<Equation>, NoMemory>
+    requires few { length signals.now ≤ MAX_COLUMNS }
+    requires below { All (λ s. s < MAX_SIGNALS) signals.now }
+    ensures some { IfOk result (λ made. is_some made ≡ nat_lt 0 (length signals.now)) }
+    ensures exact { IfOk result (λ made. IfSome made (λ e. e ≡ empty_cover signals.now)) }
+    ensures below { IfOk result (λ made. IfSome made (λ e. e.sig < MAX_SIGNALS)) }
 {
-    let sig = signals.pop()?;
-    let cover = Cover::from_vec(alloc, signals, true);
-    Some(Equation { sig, cover })
+    let count = signals.len();
+    if count == 0 {
+        return Ok(None);
+    }
+    let cover = Cover::new(alloc, &signals[..count - 1], true)?;
+    let sig = signals[count - 1];
+    Ok(Some(Equation { sig, cover }))
 }
 
 /// The value of a cover's first row, if there is one.

@@ -33,7 +33,7 @@ fn read_statements(alloc: Global, bytes: &[u8]) -> Result<Reader<'_>, BlifFault>
     ensures exact { Gives BlifFault.NoMemory (λ k. k) result (known_after (known_from []) (statements bytes.now)) }
     ensures used { IfOk result (λ k. words_used k ≤ MAX_EQUATIONS) }
 {
-    let mut reader = Reader::new(alloc);
+    let mut reader = Reader::new(alloc, bytes.len())?;
     let mut walk = Statements::new(alloc, bytes);
     while let Some(line) = walk.advance()? {
         reader.take(&Statement::new(line, walk.words()))?;

@@ -1,4 +1,4 @@
-ghost use Rattle.std.specs.Prelude.{◌≡◌, ◌+◌, ◌<◌, ◌≤◌, [], None, length, OnOk, IfSome};
+ghost use Rattle.std.specs.Prelude.{◌≡◌, ◌+◌, ◌<◌, ◌≤◌, [], None, length, IfOk, OnOk, IfSome};
 ghost use Rattle.pim_io.specs.Readings.{Gives};
 ghost use Rattle.pim_net.specs.declared.limits.TheConstants.{MAX_COLUMNS, MAX_EQUATIONS, MAX_ROWS};
 ghost use Rattle.pim_blif.specs.inner.Judging.{known_from, with_input, with_output, each, with_cover, row_of, without_cover};
@@ -7,7 +7,7 @@ ghost use Rattle.pim_blif.specs.inner.Readers.{words_used};
 use crate::cover::{add_row, empty_cover};
 use crate::fault::BlifFault;
 use crate::inputs::InputMarks;
-use crate::signals::{signal, signals};
+use crate::signals::{put_signals, signal};
 use crate::table::NameTable;
 use crate::word::Word;
 use pim_io::NoMemory;
@@ -27,6 +27,7 @@ pub(crate) struct Reader<'a> {
     outputs: u32,
     draft: Draft,
     cover: Option<Equation>,
+    signals: Vec<u32>,
     cells: Vec<Bit3>,
     started: bool,
     ended: bool,
@@ -50,22 +51,23 @@ impl<'a> Model for Reader<'a> {
 }
 
 impl<'a> Reader<'a> {
-    /// A reader that stands before the first statement. It takes no memory.
+    /// A reader that stands before the first statement of a file of this length.
     #[tactic(auto, using(crate::proofs::Marks::marks_none))]
-    pub(crate) fn new(alloc: Global) -> Reader<'a>
-        ensures { result ≡ known_from [] }
+    pub(crate) fn new(alloc: Global, file_len: usize) -> Result<Reader<'a>, NoMemory>
+        ensures { IfOk result (λ k. k ≡ known_from []) }
     {
-        Reader {
+        Ok(Reader {
             alloc,
-            names: NameTable::new(alloc),
+            names: NameTable::new(alloc, file_len)?,
             marks: InputMarks::new(alloc),
             outputs: 0,
             draft: Draft::new(alloc),
             cover: None,
+            signals: Vec::new(alloc),
             cells: Vec::new(alloc),
             started: false,
             ended: false,
-        }
+        })
     }
 
     /// Takes up an input of a name, which is not one already.
@@ -129,8 +131,8 @@ impl<'a> Reader<'a> {
         ensures exact { Gives BlifFault.NoMemory (λ _. self.new) result (with_cover line self.old names.now) }
         ensures used { self.old.cover ≡ None → OnOk result (words_used self.new ≤ words_used self.old + length names.now + 1) }
     {
-        let signals = signals(self.alloc, &mut self.names, names)?;
-        let Some(cover) = empty_cover(self.alloc, signals) else {
+        put_signals(&mut self.names, names, &mut self.signals)?;
+        let Some(cover) = empty_cover(self.alloc, &self.signals)? else {
             return Err(BlifFault::Syntax(line));
         };
         self.cover = Some(cover);

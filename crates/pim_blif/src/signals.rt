@@ -10,7 +10,6 @@ use crate::table::NameTable;
 use crate::word::Word;
 use pim_io::MAX_NAME;
 use pim_net::Kind;
-use std::alloc::Global;
 
 /// The number of a name, which is appended where it is new: it has at most `MAX_NAME` bytes, and there are at most
 /// `MAX_SIGNALS` signals. Expected constant time, beside the length of the name, which is hashed once.
@@ -31,20 +30,20 @@ pub(crate) fn signal<'a>(names: &mut NameTable<'a>, name: &'a [u8]) -> Result<u3
     }
 }
 
-/// The numbers of names, from left to right. One allocation, of their number.
-pub(crate) fn signals<'a>(
-    alloc: Global,
+/// Puts the numbers of names, from left to right, in the place of others.
+pub(crate) fn put_signals<'a>(
     names: &mut NameTable<'a>,
     words: &[Word<'a>],
-) -> Result<Vec<u32>, BlifFault>
-    ensures exact { Gives BlifFault.NoMemory (λ signals. (signals.items, names.new)) result (numbered names.old words.now) }
-    ensures below { IfOk result (λ signals. All (λ s. s < MAX_SIGNALS) signals.items) }
-    ensures count { IfOk result (λ signals. length signals.items ≡ length words.now) }
+    signals: &mut Vec<u32>,
+) -> Result<(), BlifFault>
+    ensures exact { Gives BlifFault.NoMemory (λ _. (signals.new.items, names.new)) result (numbered names.old words.now) }
+    ensures below { OnOk result (All (λ s. s < MAX_SIGNALS) signals.new.items) }
+    ensures count { OnOk result (length signals.new.items ≡ length words.now) }
 {
-    let mut signals = Vec::with_capacity(alloc, words.len())?;
+    signals.clear();
     for word in words {
         let sig = signal(names, word.bytes())?;
         signals.push(sig)?;
     }
-    Ok(signals)
+    Ok(())
 }

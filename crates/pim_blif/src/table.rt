@@ -9,6 +9,9 @@ use pim_net::MAX_SIGNALS;
 use std::alloc::Global;
 use std::marker::Model;
 
+/// How many bytes a file is likely to have for each name: the statement that drives the signal.
+const NAME_SPAN: usize = 32;
+
 /// The distinct names of a file, in the order of their first coming: a name has the number of its place. It holds slices of
 /// the file, and copies nothing.
 #[derive(Drop)]
@@ -30,13 +33,14 @@ impl<'a> Model for NameTable<'a> {
 }
 
 impl<'a> NameTable<'a> {
-    /// No names. It takes no memory.
-    pub(crate) fn new(alloc: Global) -> NameTable<'a>
-        ensures { result ≡ [] }
+    /// No names, with room for as many as a file of this length is likely to have, so that the table is seldom moved.
+    pub(crate) fn new(alloc: Global, file_len: usize) -> Result<NameTable<'a>, NoMemory>
+        ensures { IfOk result (λ names. names ≡ []) }
     {
-        NameTable {
-            names: IndexSet::new(alloc),
-        }
+        let room = (file_len / NAME_SPAN).min(MAX_SIGNALS as usize);
+        Ok(NameTable {
+            names: IndexSet::with_capacity(alloc, room)?,
+        })
     }
 
     /// The number of a name of 1 to `MAX_NAME` bytes, which is appended where it is new; `None` where it is new and there

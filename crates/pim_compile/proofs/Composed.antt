@@ -1,6 +1,8 @@
 -- What the parts of a compilation say of one another gives what the whole says.
-use Rattle.std.proofs.Common.{◌≡◌, ℕ, ◌+◌, ◌-◌, ◌≤◌, min, Bool, List, length, map, Result, Ok, Err, inl, inr, sym, ◌∙◌, ap, subst, arith}
-use Rattle.std.specs.Prelude.{IfErr, IfOk, OnOk}
+use Rattle.std.proofs.Common.{◌≡◌, ◌⊎◌, ℕ, ◌+◌, ◌-◌, ◌<◌, ◌≤◌, min, Bool, true, false, if◌then◌else◌, List, [], ◌∷◌, ◌++◌, length, map, Option, Some, None, Result, Ok, Err, inl, inr, sym, ◌∙◌, ap, subst, arith}
+use Rattle.std.specs.Prelude.{All, IfOk, nat_le}
+use Rattle.std.proofs.lemmas.Bool.{le-leb, lt-leb}
+use Rattle.std.proofs.lemmas.List.Elements.{All-append, All-cons, All-head, All-nil, All-tail}
 use Rattle.pim_aig.specs.Flat.{ands, flat}
 use Rattle.pim_aig.specs.Graph.{AigView}
 use Rattle.pim_aig.specs.Values.{aval}
@@ -21,19 +23,19 @@ use Rattle.pim_nor.specs.declared.lowering.Width.{Width}
 use Rattle.pim_nor.specs.declared.lowering.Width.TheVariants.{Two, Four}
 use Rattle.pim_rm3.specs.Costs.{made_outputs, rm3_cost}
 use Rattle.pim_simpler.specs.Batching.{Batched}
-use Rattle.pim_simpler.specs.Needs.{needed_of, AsksAtMost, IsRefusalFor}
-use Rattle.pim_simpler.specs.declared.refusal.Refusal.{Refusal}
-use Rattle.pim_simpler.specs.declared.refusal.Refusal.TheVariants.{TooFewCells, NoMemory}
-use Rattle.pim_compile.specs.Choices.{FitsInNoFewer, IsCandidate, IsChosen}
+use Rattle.pim_simpler.specs.Needs.{needed_of}
+use Rattle.pim_tidy.specs.Tidied.{tidied}
+use Rattle.pim_compile.specs.Choices.{IsCandidate, IsChosen, IsFirst}
 use Rattle.pim_compile.specs.Computes.{Computes}
-use Rattle.pim_compile.specs.Networks.{FollowsNetwork, FollowsSome, TakesCycles, coarse_need, coarse_of, need, need_of, nors_of_two}
-use Rattle.pim_compile.specs.Refusals.{IsAccepted}
+use Rattle.pim_compile.specs.Cycles.{IsQuick, IsQuickBy, IsQuickTidy, TakesCycles}
+use Rattle.pim_compile.specs.Networks.{FollowsGraph, FollowsNetwork, FollowsSome, coarse_need, coarse_of, if_few, most_nors, need, need_of, networks_at, networks_of, nors_of_two, tidy_networks}
+use Rattle.pim_compile.specs.Refusals.{IsAccepted, IsEnough}
 use Rattle.pim_compile.specs.Targets.{OnMagic, OnPlim}
-use Rattle.pim_compile.specs.inner.Candidates.{IsBase, IsMagic, IsNoShorter, IsOfWidth, IsOneOf, IsProgramOf, IsScarce, IsScheduled, IsShortOf, IsUnfit, IsUnfitFor}
+use Rattle.pim_compile.specs.inner.Candidates.{IsBase, IsBestOf, IsMagic, IsOfNetwork, IsPlaced, IsProgramOf, IsScheduled, IsScheduleOf, IsTooWide, shorter}
 use Rattle.pim_compile.specs.declared.compiling.Level.{Level}
-use Rattle.pim_compile.specs.declared.compiling.Level.TheVariants.{Zero}
+use Rattle.pim_compile.specs.declared.compiling.Level.TheVariants as level
 use Rattle.pim_compile.specs.declared.refusal.Refusal.{Refusal as Refused}
-use Rattle.pim_compile.specs.declared.refusal.Refusal.TheVariants as refused
+use Rattle.pim_compile.proofs.Best.{best_too, both_best, first_of, first_too, one_best, one_wide, quick_each}
 
 -- what is realized, where two functions give the same
 Realizes-same : (p : ProgramView) (labels : List (List ℕ)) (f h : List Bool → List Bool) → ((bits : List Bool) → length bits ≡ length labels → f bits ≡ h bits) → Realizes p labels f → Realizes p labels h
@@ -46,105 +48,156 @@ Realizes-same p labels f h same r = record {
 }
 
 -- neither width has more NORs than width two
-by_width : (g : AigView) (width : Width) → nor_count (nors g Four).gates ≤ nor_count (nors g Two).gates → nor_count (nors g width).gates ≤ nor_count (nors g Two).gates
+by_width : (g : AigView) (width : Width) → nor_count (nors g Four).gates ≤ most_nors g → nor_count (nors g width).gates ≤ most_nors g
 by_width g Two fewer = omega arith
 by_width g Four fewer = fewer
 
 within_budget : (cells inputs peak gates budget : ℕ) → cells ≡ inputs + min (budget - inputs) gates → inputs + peak ≤ budget → cells ≤ budget
 within_budget cells inputs peak gates budget is enough = omega arith
 
-pub candidate_fits : (g : AigView) (w : NorView) (ports : PortsView) (width : Width) (budget : ℕ) (r : Result ProgramView Refusal) → w ≡ nors g width → ((bits : List Bool) → length bits ≡ g.inputs → out_values w bits ≡ map (aval g bits) g.outputs) → nor_count (nors g Four).gates ≤ nor_count (nors g Two).gates → length ports.inputs ≡ g.inputs →
-    IfOk r (λ p. Realizes p ports.inputs (out_values w)) → IfOk r (λ p. labels_of p.outputs ≡ ports.outputs) → IfOk r (λ p. p.target ≡ Magic) → IfOk r (λ p. p.cells ≡ w.inputs + min (budget - w.inputs) (length w.gates)) → IfOk r (λ p. IsPrimed p.instrs) → IfOk r (λ p. FollowsNetwork p w) → IfOk r (λ p. Batched p) → IfOk r (λ p. length (nor_places p.instrs) ≡ nor_count w.gates) → OnOk r (needed_of w ≤ budget) →
-    IfOk r (IsOfWidth g ports width budget)
-candidate_fits g w ports width budget (Ok p) network values fewer inputs realizes labels target cells primed follows batched few_nors enough =
-    let F : NorView → Type 0 = FollowsNetwork p in
-    let N : NorView → Type 0 = λ x. needed_of x ≤ budget in
-    let C : NorView → Type 0 = λ x. p.cells ≡ x.inputs + min (budget - x.inputs) (length x.gates) in
-    let same = ap (λ (x : NorView). nor_count x.gates) network in
-    record {
-      program = record {
-        realizes = Realizes-same p ports.inputs (out_values w) (λ bits. map (aval g bits) g.outputs) (λ bits len. values bits (len ∙ inputs)) realizes;
-        labels = labels;
-        is_target = target;
-        cells = within_budget p.cells w.inputs _ (length w.gates) budget cells enough;
-        primed = primed;
-      };
-      follows = subst F network follows;
-      batched = batched;
-      wide = subst C network cells;
-      few_nors = omega (arith, by_width g width fewer);
-      enough = subst N network enough;
-    }
-candidate_fits g w ports width budget (Err e) network values fewer inputs realizes labels target cells primed follows batched few_nors enough = tt
+-- ---- a network of a graph
 
-pub candidate_unfit : (g : AigView) (w : NorView) (width : Width) (budget : ℕ) (r : Result ProgramView Refusal) → w ≡ nors g width → IfErr r (IsRefusalFor (needed_of w) budget) → IfErr r (AsksAtMost (w.inputs + nor_count w.gates + 1)) → IfErr r (IsUnfitFor g width budget)
-candidate_unfit g w width budget (Ok p) network refused most = tt
-candidate_unfit g w width budget (Err (TooFewCells told)) network refused most =
-    let M : NorView → Type 0 = λ x. told ≤ x.inputs + nor_count x.gates + 1 in
-    record {
-      is = refused.0 ∙ ap needed_of network;
-      below = omega (arith, refused.0, refused.1);
-      most = subst M network most;
-    }
-candidate_unfit g w width budget (Err NoMemory) network refused most = tt
+-- what a network's outputs are
+abbrev HasOuts : AigView → NorView → Type 0
+HasOuts g w = (bits : List Bool) → length bits ≡ g.inputs → out_values w bits ≡ map (aval g bits) g.outputs
 
--- ---- the one of two candidates that is chosen
--- a network that does not fit is not spoken of
-unfit_silent : (g : AigView) (ports : PortsView) (width : Width) (budget told cycles : ℕ) → IsUnfit g width budget told → IsNoShorter g ports width budget cycles
-unfit_silent g ports width budget told cycles u = λ fits. absurd (let z : ⊥ = omega (arith, u.is, u.below) in z)
-
-pub chosen_fits : (g : AigView) (ports : PortsView) (budget : ℕ) (four two : Result ProgramView Refusal) (r : Result ProgramView Refused) → IfOk four (IsOfWidth g ports Four budget) → IfOk two (IsOfWidth g ports Two budget) → IfErr four (IsUnfitFor g Four budget) → IfErr two (IsUnfitFor g Two budget) → IfOk r (IsOneOf four two) → IfOk r (IsMagic g ports budget)
-chosen_fits g ports budget four two (Err e) f t u v one = tt
-chosen_fits g ports budget (Ok four) (Ok two) (Ok p) f t u v one =
-    let F : ProgramView → Type 0 = IsOfWidth g ports Four budget in
-    let T : ProgramView → Type 0 = IsOfWidth g ports Two budget in
-    elim one [
-      | inl e ↦ inl (subst F (sym e.0) f, λ fits. (two, t, let same = ap (λ (q : ProgramView). length q.instrs) e.0 in omega (arith, e.1)))
-      | inr e ↦ inr (subst T (sym e.0) t, λ fits. (four, f, let same = ap (λ (q : ProgramView). length q.instrs) e.0 in omega (arith, e.1)))
-    ]
-chosen_fits g ports budget (Ok four) (Err (TooFewCells told)) (Ok p) f t u v one =
-    let F : ProgramView → Type 0 = IsOfWidth g ports Four budget in
-    inl (subst F (sym one) f, unfit_silent g ports Two budget told (length p.instrs) v)
-chosen_fits g ports budget (Ok four) (Err NoMemory) (Ok p) f t u v one = absurd one
-chosen_fits g ports budget (Err (TooFewCells told)) (Ok two) (Ok p) f t u v one =
-    let T : ProgramView → Type 0 = IsOfWidth g ports Two budget in
-    inr (subst T (sym one) t, unfit_silent g ports Four budget told (length p.instrs + 1) u)
-chosen_fits g ports budget (Err NoMemory) (Ok two) (Ok p) f t u v one = absurd one
-chosen_fits g ports budget (Err (TooFewCells told)) (Err second) (Ok p) f t u v one = absurd one
-chosen_fits g ports budget (Err NoMemory) (Err second) (Ok p) f t u v one = absurd one
-
--- where both lack room
-record AreUnfit (g : AigView) (budget needed : ℕ) : Type 0 where
-  pub first : ℕ
-  pub second : ℕ
-  pub unfit_four : IsUnfit g Four budget first
-  pub unfit_two : IsUnfit g Two budget second
-  pub least : needed ≡ min first second
-
-are_unfit : (g : AigView) (budget needed : ℕ) (four two : Result ProgramView Refusal) → IfErr four (IsUnfitFor g Four budget) → IfErr two (IsUnfitFor g Two budget) → IsShortOf four two (refused.TooFewCells needed) → AreUnfit g budget needed
-are_unfit g budget needed (Ok p) two u v short = absurd short
-are_unfit g budget needed (Err NoMemory) two u v short = absurd short
-are_unfit g budget needed (Err (TooFewCells m)) (Ok p) u v short = absurd short
-are_unfit g budget needed (Err (TooFewCells m)) (Err NoMemory) u v short = absurd short
-are_unfit g budget needed (Err (TooFewCells m)) (Err (TooFewCells k)) u v short = record {
-  first = m;
-  second = k;
-  unfit_four = u;
-  unfit_two = v;
-  least = short;
+of_network : (g : AigView) (ports : PortsView) (width : Width) (most budget : ℕ) (p : ProgramView) → HasOuts g (nors g width) → nor_count (nors g width).gates ≤ most → length ports.inputs ≡ g.inputs →
+    IsPlaced (nors g width) ports budget p → IsOfNetwork g ports most budget (nors g width) p
+of_network g ports width most budget p values few inputs placed = record {
+  program = record {
+    realizes = Realizes-same p ports.inputs (out_values (nors g width)) (λ bits. map (aval g bits) g.outputs) (λ bits len. values bits (len ∙ inputs)) placed.realizes;
+    labels = placed.labels;
+    is_target = placed.is_target;
+    cells = within_budget p.cells g.inputs _ (length (nors g width).gates) budget placed.cells placed.enough;
+    primed = placed.primed;
+  };
+  follows = placed.follows;
+  batched = placed.batched;
+  wide = placed.cells;
+  few_nors = omega (arith, placed.nors);
+  enough = placed.enough;
+  quick = placed.quick;
 }
 
-pub chosen_scarce : (g : AigView) (budget : ℕ) (four two : Result ProgramView Refusal) (r : Result ProgramView Refused) → IfErr four (IsUnfitFor g Four budget) → IfErr two (IsUnfitFor g Two budget) → IfErr r (IsShortOf four two) → IfErr r (IsScarce (need_of g Magic) (coarse_of g Magic) budget)
-chosen_scarce g budget four two (Ok p) u v short = tt
-chosen_scarce g budget four two (Err refused.TooLarge) u v short = short
-chosen_scarce g budget four two (Err refused.NoMemory) u v short = tt
-chosen_scarce g budget four two (Err (refused.TooFewCells told)) u v short =
-    let are = are_unfit g budget told four two u v short in
-    record {
-      is = omega (arith, are.least, are.unfit_four.is, are.unfit_two.is);
-      below = omega (arith, are.least, are.unfit_four.below, are.unfit_two.below);
-      few = omega (arith, are.least, are.unfit_two.most);
-    }
+one_of : (g : AigView) (ports : PortsView) (width : Width) (most budget : ℕ) (r : Option ProgramView) → HasOuts g (nors g width) → nor_count (nors g width).gates ≤ most → length ports.inputs ≡ g.inputs →
+    IsScheduleOf (nors g width) ports budget r → IsBestOf g ports most budget (nors g width ∷ []) r
+one_of g ports width most budget None values few inputs wide = one_wide (IsOfNetwork g ports most budget) budget (nors g width) wide
+one_of g ports width most budget (Some p) values few inputs placed =
+    one_best (IsOfNetwork g ports most budget) budget (nors g width) p (of_network g ports width most budget p values few inputs placed) placed.enough
+
+pub candidate_best : {E : Type 0} (g : AigView) (w : NorView) (ports : PortsView) (width : Width) (budget : ℕ) (r : Result (Option ProgramView) E) → w ≡ nors g width → HasOuts g w → nor_count (nors g Four).gates ≤ most_nors g → length ports.inputs ≡ g.inputs →
+    IfOk r (IsScheduleOf w ports budget) → IfOk r (IsBestOf g ports (most_nors g) budget (nors g width ∷ []))
+candidate_best g w ports width budget (Ok r) network values fewer inputs scheduled =
+    let S : NorView → Type 0 = λ x. IsScheduleOf x ports budget r in
+    one_of g ports width (most_nors g) budget r (subst (HasOuts g) network values) (by_width g width fewer) inputs (subst S network scheduled)
+candidate_best g w ports width budget (Err e) network values fewer inputs scheduled = tt
+
+-- ---- of the tidied form those that have no more NORs
+
+pub too_many : (g : AigView) (w : NorView) (ports : PortsView) (width : Width) (most budget : ℕ) → w ≡ nors g width → most < nor_count w.gates → IsBestOf g ports most budget (if_few most (nors g width)) None
+too_many g w ports width most budget network more =
+    let F : NorView → Type 0 = λ x. most < nor_count x.gates in
+    let is : nat_le (nor_count (nors g width).gates) most ≡ false = lt-leb (nor_count (nors g width).gates) most (subst F network more) in
+    let B : Bool → Type 0 = λ b. IsBestOf g ports most budget (if b then nors g width ∷ [] else []) None in
+    subst B (sym is) (All-nil (IsTooWide budget))
+
+pub few_enough : {E : Type 0} (g : AigView) (w : NorView) (ports : PortsView) (width : Width) (most budget : ℕ) (r : Result (Option ProgramView) E) → w ≡ nors g width → HasOuts g w → nor_count w.gates ≤ most → length ports.inputs ≡ g.inputs →
+    IfOk r (IsScheduleOf w ports budget) → IfOk r (IsBestOf g ports most budget (if_few most (nors g width)))
+few_enough g w ports width most budget (Ok r) network values fewer inputs scheduled =
+    let F : NorView → Type 0 = λ x. nor_count x.gates ≤ most in
+    let S : NorView → Type 0 = λ x. IsScheduleOf x ports budget r in
+    let few = subst F network fewer in
+    let is : nat_le (nor_count (nors g width).gates) most ≡ true = le-leb (nor_count (nors g width).gates) most few in
+    let B : Bool → Type 0 = λ b. IsBestOf g ports most budget (if b then nors g width ∷ [] else []) r in
+    subst B (sym is) (one_of g ports width most budget r (subst (HasOuts g) network values) few inputs (subst S network scheduled))
+few_enough g w ports width most budget (Err e) network values fewer inputs scheduled = tt
+
+-- what computes the tidied graph computes the graph
+from_tidy : (g : AigView) (ports : PortsView) (most budget : ℕ) → length ports.inputs ≡ g.inputs →
+    ((bits : List Bool) → length bits ≡ g.inputs → map (aval (tidied g) bits) (tidied g).outputs ≡ map (aval g bits) g.outputs) →
+    (w : NorView) (p : ProgramView) → IsOfNetwork (tidied g) ports most budget w p → IsOfNetwork g ports most budget w p
+from_tidy g ports most budget inputs values w p c = record {
+  program = record {
+    realizes =
+        Realizes-same p ports.inputs (λ bits. map (aval (tidied g) bits) (tidied g).outputs) (λ bits. map (aval g bits) g.outputs) (λ bits len. values bits (len ∙ inputs)) c.program.realizes;
+    labels = c.program.labels;
+    is_target = c.program.is_target;
+    cells = c.program.cells;
+    primed = c.program.primed;
+  };
+  follows = c.follows;
+  batched = c.batched;
+  wide = c.wide;
+  few_nors = c.few_nors;
+  enough = c.enough;
+  quick = c.quick;
+}
+
+pub tidy_best : (g t : AigView) (ports : PortsView) (most budget : ℕ) (r s : Option ProgramView) → t ≡ tidied g → most ≡ most_nors g → length ports.inputs ≡ g.inputs →
+    ((bits : List Bool) → length bits ≡ g.inputs → map (aval t bits) t.outputs ≡ map (aval g bits) g.outputs) →
+    IsBestOf t ports most budget (if_few most (nors t Four)) r → IsBestOf t ports most budget (if_few most (nors t Two)) s →
+    IsBestOf g ports (most_nors g) budget (tidy_networks g) (shorter r s)
+tidy_best g t ports most budget r s tidy same inputs values four two =
+    let V : AigView → Type 0 = λ x. (bits : List Bool) → length bits ≡ g.inputs → map (aval x bits) x.outputs ≡ map (aval g bits) g.outputs in
+    let F : AigView → ℕ → Type 0 = λ x m. IsBestOf x ports m budget (if_few m (nors x Four)) r in
+    let T : AigView → ℕ → Type 0 = λ x m. IsBestOf x ports m budget (if_few m (nors x Two)) s in
+    let m = most_nors g in
+    let four_tidy : F (tidied g) m = subst (λ (x : AigView). F x m) tidy (subst (λ (k : ℕ). F t k) same four) in
+    let two_tidy : T (tidied g) m = subst (λ (x : AigView). T x m) tidy (subst (λ (k : ℕ). T t k) same two) in
+    best_too (IsOfNetwork (tidied g) ports m budget) (IsOfNetwork g ports m budget) (from_tidy g ports m budget inputs (subst V tidy values)) budget (tidy_networks g) (shorter r s)
+    (both_best (IsOfNetwork (tidied g) ports m budget) budget (if_few m (nors (tidied g) Four)) (if_few m (nors (tidied g) Two)) r s four_tidy two_tidy)
+
+-- ---- the lists of networks
+
+All-before : {X : Type 0} (P : X → Type 0) (xs ys : List X) → All P (xs ++ ys) → All P xs
+All-before P [] ys all = All-nil P
+All-before P (x ∷ xs) ys all = All-cons P x xs (All-head P x (xs ++ ys) all) (All-before P xs ys (All-tail P x (xs ++ ys) all))
+
+All-behind : {X : Type 0} (P : X → Type 0) (xs ys : List X) → All P (xs ++ ys) → All P ys
+All-behind P [] ys all = all
+All-behind P (x ∷ xs) ys all = All-behind P xs ys (All-tail P x (xs ++ ys) all)
+
+all_flat : (Q : NorView → Type 0) (g : AigView) → Q (nors g Four) → Q (nors g Two) → All Q (networks_of g)
+all_flat Q g four two = All-cons Q (nors g Four) (nors g Two ∷ []) four (All-cons Q (nors g Two) [] two (All-nil Q))
+
+of_flat : (Q : NorView → Type 0) (g : AigView) → All Q (networks_of g) → Q (nors g Four) × Q (nors g Two)
+of_flat Q g all = (All-head Q (nors g Four) (nors g Two ∷ []) all, All-head Q (nors g Two) [] (All-tail Q (nors g Four) (nors g Two ∷ []) all))
+
+if_at : (Q : NorView → Type 0) (b : Bool) (w : NorView) → Q w → All Q (if b then w ∷ [] else [])
+if_at Q true w q = All-cons Q w [] q (All-nil Q)
+if_at Q false w q = All-nil Q
+
+all_tidy : (Q : NorView → Type 0) (g : AigView) → Q (nors (tidied g) Four) → Q (nors (tidied g) Two) → All Q (tidy_networks g)
+all_tidy Q g four two =
+    All-append Q (if_few (most_nors g) (nors (tidied g) Four)) (if_few (most_nors g) (nors (tidied g) Two))
+    (if_at Q (nat_le (nor_count (nors (tidied g) Four).gates) (most_nors g)) (nors (tidied g) Four) four)
+    (if_at Q (nat_le (nor_count (nors (tidied g) Two).gates) (most_nors g)) (nors (tidied g) Two) two)
+
+-- of the tidied form's network of up to two operands, where it has no more NORs
+of_tidy_two : (Q : NorView → Type 0) (g : AigView) → All Q (tidy_networks g) → nor_count (nors (tidied g) Two).gates ≤ most_nors g → Q (nors (tidied g) Two)
+of_tidy_two Q g all few =
+    let w = nors (tidied g) Two in
+    let there : All Q (if_few (most_nors g) w) = All-behind Q (if_few (most_nors g) (nors (tidied g) Four)) (if_few (most_nors g) w) all in
+    let is : nat_le (nor_count w.gates) (most_nors g) ≡ true = le-leb (nor_count w.gates) (most_nors g) few in
+    let L : Bool → Type 0 = λ b. All Q (if b then w ∷ [] else []) in
+    All-head Q w [] (subst L is there)
+
+flat_too : (effort : Level) (Q : NorView → Type 0) (g : AigView) → All Q (networks_at effort g) → All Q (networks_of g)
+flat_too level.Zero Q g all = all
+flat_too level.One Q g all = All-behind Q (tidy_networks g) (networks_of g) all
+flat_too level.Two Q g all = All-behind Q (tidy_networks g) (networks_of g) all
+
+-- above level 0 the networks of the tidied form come first
+pub above_zero : (effort : Level) (g : AigView) → (effort ≡ level.One) ⊎ (effort ≡ level.Two) → networks_at effort g ≡ tidy_networks g ++ networks_of g
+above_zero effort g above =
+    let N : Level → List NorView = λ e. networks_at e g in
+    elim above [ | inl one ↦ ap N one | inr two ↦ ap N two ]
+
+-- where no network fits, the budget is below the need
+pub none_fits : (effort : Level) (g : AigView) (budget : ℕ) → All (IsTooWide budget) (networks_at effort g) → budget < need_of g Magic
+none_fits effort g budget all =
+    let both = of_flat (IsTooWide budget) g (flat_too effort (IsTooWide budget) g all) in
+    omega (arith, both.0.below, both.1.below)
 
 -- ---- from the flat graph to the netlist
 -- what is known of a netlist's flat graph and its labels
@@ -167,7 +220,8 @@ pub record IsCompiled (n : NetView) (target : Target) (level : Level) (budget : 
   pub batched : OnMagic target (Batched p)
   pub nors : OnMagic target (length (nor_places p.instrs) ≤ nors_of_two n)
   pub chosen : OnMagic target (IsChosen level n budget p)
-  pub cycles : OnPlim target (TakesCycles level p n)
+  pub quick : OnMagic target (IsQuick level n budget p)
+  pub cycles : OnPlim target (TakesCycles level n budget p)
   pub accepted : IsAccepted n target level budget
 
 computes_net : (n : NetView) (g : AigView) (ports : PortsView) (target : Target) (budget : ℕ) (p : ProgramView) → IsFlat n g ports → IsProgramOf g ports target budget p → Computes p n
@@ -178,53 +232,96 @@ computes_net n g ports target budget p f c =
       labels = c.labels ∙ f.outputs;
     }
 
-follows_some : (n : NetView) (p : ProgramView) (width : Width) → FollowsNetwork p (nors (flat n) width) → FollowsSome Zero p n
-follows_some n p Two follows = inr follows
-follows_some n p Four follows = inl follows
-
-least_width : (g : AigView) (width : Width) (budget : ℕ) → needed_of (nors g width) ≤ budget → need_of g Magic ≤ budget
-least_width g Two budget enough = omega arith
-least_width g Four budget enough = omega arith
-
--- the program of a network of the flat graph is one of the netlist's
-candidate_net : (n : NetView) (g : AigView) (ports : PortsView) (width : Width) (budget : ℕ) (p : ProgramView) → IsFlat n g ports → IsOfWidth g ports width budget p → IsCandidate n width budget p
-candidate_net n g ports width budget p f c =
-    let F : AigView → Type 0 = λ x. FollowsNetwork p (nors x width) in
-    let C : AigView → Type 0 = λ x. p.cells ≡ x.inputs + min (budget - x.inputs) (length (nors x width).gates) in
+-- the program of a network of the flat graph, or of its tidied form, is one of the netlist's
+candidate_net : (n : NetView) (g : AigView) (ports : PortsView) (most budget : ℕ) → IsFlat n g ports → (w : NorView) (p : ProgramView) → IsOfNetwork g ports most budget w p → IsCandidate n budget w p
+candidate_net n g ports most budget f w p c =
+    let C : AigView → Type 0 = λ x. p.cells ≡ x.inputs + min (budget - x.inputs) (length w.gates) in
     record {
       computes = computes_net n g ports Magic budget p f c.program;
       primed = c.program.primed;
-      follows = subst F f.graph c.follows;
+      follows = c.follows;
       batched = c.batched;
       cells = subst C f.graph c.wide;
     }
 
-no_fewer : (n : NetView) (g : AigView) (ports : PortsView) (width : Width) (budget cycles : ℕ) → IsFlat n g ports → IsNoShorter g ports width budget cycles → FitsInNoFewer n width budget cycles
-no_fewer n g ports width budget cycles f h = λ fits.
-    let E : AigView → Type 0 = λ x. needed_of (nors x width) ≤ budget in
-    let found = h (subst E (sym f.graph) fits) in
-    record { other = found.0; is = candidate_net n g ports width budget found.0 f found.1; no_fewer = found.2 }
+-- what follows one of a level's networks
+abbrev FollowsAt : Level → ProgramView → AigView → Type 0
+FollowsAt level.Zero p g = FollowsGraph p g
+FollowsAt level.One p g = FollowsGraph p (tidied g) ⊎ FollowsGraph p g
+FollowsAt level.Two p g = FollowsGraph p (tidied g) ⊎ FollowsGraph p g
 
-compiled_at : (n : NetView) (g : AigView) (ports : PortsView) (width : Width) (budget : ℕ) (p : ProgramView) → IsFlat n g ports → IsOfWidth g ports width budget p → IsChosen Zero n budget p → IsCompiled n Magic Zero budget p
-compiled_at n g ports width budget p f c chosen =
-    let F : AigView → Type 0 = λ x. FollowsNetwork p (nors x width) in
-    let N : AigView → Type 0 = λ x. length (nor_places p.instrs) ≤ nor_count (nors x Two).gates in
-    let E : AigView → Type 0 = λ x. need_of x Magic ≤ budget in
+all_follow : (effort : Level) (p : ProgramView) (g : AigView) → All (λ w. FollowsNetwork p w → FollowsAt effort p g) (networks_at effort g)
+all_follow level.Zero p g = all_flat (λ w. FollowsNetwork p w → FollowsGraph p g) g (λ h. inl h) (λ h. inr h)
+all_follow level.One p g =
+    let Q : NorView → Type 0 = λ w. FollowsNetwork p w → FollowsGraph p (tidied g) ⊎ FollowsGraph p g in
+    All-append Q (tidy_networks g) (networks_of g) (all_tidy Q g (λ h. inl (inl h)) (λ h. inl (inr h))) (all_flat Q g (λ h. inr (inl h)) (λ h. inr (inr h)))
+all_follow level.Two p g =
+    let Q : NorView → Type 0 = λ w. FollowsNetwork p w → FollowsGraph p (tidied g) ⊎ FollowsGraph p g in
+    All-append Q (tidy_networks g) (networks_of g) (all_tidy Q g (λ h. inl (inl h)) (λ h. inl (inr h))) (all_flat Q g (λ h. inr (inl h)) (λ h. inr (inr h)))
+
+follows_net : (effort : Level) (n : NetView) (g : AigView) (p : ProgramView) → g ≡ flat n → FollowsAt effort p g → FollowsSome effort p n
+follows_net level.Zero n g p graph h = subst (FollowsAt level.Zero p) graph h
+follows_net level.One n g p graph h = subst (FollowsAt level.One p) graph h
+follows_net level.Two n g p graph h = subst (FollowsAt level.Two p) graph h
+
+-- how quick it is
+quick_net : (effort : Level) (n : NetView) (g : AigView) (budget : ℕ) (p : ProgramView) → g ≡ flat n → All (IsQuickBy budget p) (networks_at effort g) → IsQuick effort n budget p
+quick_net level.Zero n g budget p graph all = subst (λ (x : AigView). IsQuickBy budget p (nors x Two)) graph (of_flat (IsQuickBy budget p) g all).1
+quick_net level.One n g budget p graph all =
+    subst (λ (x : AigView). IsQuickTidy x budget p) graph (of_tidy_two (IsQuickBy budget p) g (All-before (IsQuickBy budget p) (tidy_networks g) (networks_of g) all))
+quick_net level.Two n g budget p graph all =
+    subst (λ (x : AigView). IsQuickTidy x budget p) graph (of_tidy_two (IsQuickBy budget p) g (All-before (IsQuickBy budget p) (tidy_networks g) (networks_of g) all))
+
+-- at level 0 the budget is no less than the need
+enough_net : (effort : Level) (n : NetView) (g : AigView) (ports : PortsView) (budget : ℕ) (p : ProgramView) → g ≡ flat n → IsMagic effort g ports budget p → IsEnough Magic effort n budget
+enough_net level.Zero n g ports budget p graph c =
+    let Q : NorView → Type 0 = λ w. needed_of w ≤ budget → need_of g Magic ≤ budget in
+    let enough : need_of g Magic ≤ budget =
+    first_of (IsOfNetwork g ports (most_nors g) budget) budget Q p (need_of g Magic ≤ budget) (networks_of g) (λ w is fits. fits is.enough)
+    (all_flat Q g (λ h. omega arith) (λ h. omega arith)) c.0 in
+    subst (λ (x : AigView). need_of x Magic ≤ budget) graph enough
+enough_net level.One n g ports budget p graph c = tt
+enough_net level.Two n g ports budget p graph c = tt
+
+-- of what network it is
+record IsOfSome (g : AigView) (ports : PortsView) (budget : ℕ) (effort : Level) (p : ProgramView) : Type 0 where
+  pub program : IsProgramOf g ports Magic budget p
+  pub follows : FollowsAt effort p g
+  pub batched : Batched p
+  pub few_nors : length (nor_places p.instrs) ≤ most_nors g
+
+of_some : (effort : Level) (g : AigView) (ports : PortsView) (budget : ℕ) (p : ProgramView) → IsMagic effort g ports budget p → IsOfSome g ports budget effort p
+of_some effort g ports budget p c =
+    first_of (IsOfNetwork g ports (most_nors g) budget) budget (λ w. FollowsNetwork p w → FollowsAt effort p g) p (IsOfSome g ports budget effort p) (networks_at effort g)
+    (λ w is follows. record { program = is.program; follows = follows is.follows; batched = is.batched; few_nors = is.few_nors }) (all_follow effort p g) c.0
+
+compiled_magic : (n : NetView) (g : AigView) (ports : PortsView) (effort : Level) (budget : ℕ) (p : ProgramView) → IsFlat n g ports → IsMagic effort g ports budget p → IsCompiled n Magic effort budget p
+compiled_magic n g ports effort budget p f c =
+    let some = of_some effort g ports budget p c in
+    let IsOf : NorView → ProgramView → Type 0 = IsOfNetwork g ports (most_nors g) budget in
+    let N : AigView → Type 0 = λ x. length (nor_places p.instrs) ≤ most_nors x in
+    let C : AigView → Type 0 = λ x. IsFirst (IsCandidate n budget) budget (networks_at effort x) p in
     record {
-      computes = computes_net n g ports Magic budget p f c.program;
-      is_target = c.program.is_target;
-      cells = c.program.cells;
-      primed = c.program.primed;
-      follows = follows_some n p width (subst F f.graph c.follows);
-      batched = c.batched;
-      nors = subst N f.graph c.few_nors;
-      chosen = chosen;
+      computes = computes_net n g ports Magic budget p f some.program;
+      is_target = some.program.is_target;
+      cells = some.program.cells;
+      primed = some.program.primed;
+      follows = follows_net effort n g p f.graph some.follows;
+      batched = some.batched;
+      nors = subst N f.graph some.few_nors;
+      chosen = subst C f.graph (first_too IsOf (IsCandidate n budget) (candidate_net n g ports (most_nors g) budget f) budget (networks_at effort g) p c.0);
+      quick = quick_net effort n g budget p f.graph (quick_each IsOf budget (λ w q is. is.quick) (networks_at effort g) p c);
       cycles = tt;
-      accepted = record { few = f.few; enough = subst E f.graph (least_width g width budget c.enough) };
+      accepted = record { few = f.few; enough = enough_net effort n g ports budget p f.graph c };
     }
 
-compiled_base : (n : NetView) (g : AigView) (ports : PortsView) (budget : ℕ) (p : ProgramView) → IsFlat n g ports → IsBase g ports budget p → IsCompiled n Plim Zero budget p
-compiled_base n g ports budget p f c = record {
+takes_cycles : (effort : Level) (n : NetView) (budget : ℕ) (p : ProgramView) → length p.instrs ≡ rm3_cost (flat n) → TakesCycles effort n budget p
+takes_cycles level.Zero n budget p is = is
+takes_cycles level.One n budget p is = omega (arith, is)
+takes_cycles level.Two n budget p is = omega (arith, is)
+
+compiled_base : (n : NetView) (g : AigView) (ports : PortsView) (effort : Level) (budget : ℕ) (p : ProgramView) → IsFlat n g ports → IsBase g ports budget p → IsCompiled n Plim effort budget p
+compiled_base n g ports effort budget p f c = record {
   computes = computes_net n g ports Plim budget p f c.program;
   is_target = c.program.is_target;
   cells = c.program.cells;
@@ -233,23 +330,19 @@ compiled_base n g ports budget p f c = record {
   batched = tt;
   nors = tt;
   chosen = tt;
-  cycles = c.cycles ∙ ap rm3_cost f.graph;
+  quick = tt;
+  cycles = takes_cycles effort n budget p (c.cycles ∙ ap rm3_cost f.graph);
   accepted = record { few = f.few; enough = tt };
 }
 
-pub compiled : (n : NetView) (g : AigView) (ports : PortsView) (target : Target) (level : Level) (budget : ℕ) (p : ProgramView) → IsFlat n g ports → IsScheduled g ports target level budget p → IsCompiled n target level budget p
-compiled n g ports Magic Zero budget p f c = elim c [
-  | inl four ↦ compiled_at n g ports Four budget p f four.0
-      (inl (candidate_net n g ports Four budget p f four.0, no_fewer n g ports Two budget (length p.instrs) f four.1))
-  | inr two ↦ compiled_at n g ports Two budget p f two.0
-      (inr (candidate_net n g ports Two budget p f two.0, no_fewer n g ports Four budget (length p.instrs + 1) f two.1))
-]
-compiled n g ports Plim Zero budget p f c = compiled_base n g ports budget p f c
+pub compiled : (n : NetView) (g : AigView) (ports : PortsView) (target : Target) (effort : Level) (budget : ℕ) (p : ProgramView) → IsFlat n g ports → IsScheduled g ports target effort budget p → IsCompiled n target effort budget p
+compiled n g ports Magic effort budget p f c = compiled_magic n g ports effort budget p f c
+compiled n g ports Plim effort budget p f c = compiled_base n g ports effort budget p f c
 
 -- what a call gives, where its program is compiled so
-pub compiled_gives : (n : NetView) (g : AigView) (ports : PortsView) (target : Target) (level : Level) (budget : ℕ) (Q : ProgramView → Type 0) (r : Result ProgramView Refused) → ((p : ProgramView) → IsCompiled n target level budget p → Q p) → IsFlat n g ports → IfOk r (IsScheduled g ports target level budget) → IfOk r Q
-compiled_gives n g ports target level budget Q (Ok p) gives f fits = gives p (compiled n g ports target level budget p f fits)
-compiled_gives n g ports target level budget Q (Err e) gives f fits = tt
+pub compiled_gives : (n : NetView) (g : AigView) (ports : PortsView) (target : Target) (effort : Level) (budget : ℕ) (Q : ProgramView → Type 0) (r : Result ProgramView Refused) → ((p : ProgramView) → IsCompiled n target effort budget p → Q p) → IsFlat n g ports → IfOk r (IsScheduled g ports target effort budget) → IfOk r Q
+compiled_gives n g ports target effort budget Q (Ok p) gives f fits = gives p (compiled n g ports target effort budget p f fits)
+compiled_gives n g ports target effort budget Q (Err e) gives f fits = tt
 
 -- the bounds of a netlist are those of its flat graph
 coarse_same : (n : NetView) (g : AigView) (target : Target) → g ≡ flat n → length (flat n).ands ≡ ands n → coarse_of g target ≡ coarse_need n target

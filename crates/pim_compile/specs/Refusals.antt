@@ -7,19 +7,22 @@ use Rattle.pim_isa.specs.declared.target.Target.TheVariants.{Magic, Plim}
 use Rattle.pim_net.specs.Netlist.{NetView}
 use Rattle.pim_compile.specs.Networks.{need, coarse_need}
 use Rattle.pim_compile.specs.declared.compiling.Level.{Level}
-use Rattle.pim_compile.specs.declared.compiling.Level.TheVariants.{Zero}
+use Rattle.pim_compile.specs.declared.compiling.Level.TheVariants as level
 use Rattle.pim_compile.specs.declared.refusal.Refusal.{Refusal}
 use Rattle.pim_compile.specs.declared.refusal.Refusal.TheVariants.{TooFewCells, TooLarge, NoMemory}
 
--- what a budget that was enough says of the need: for MAGIC at level 0 it is at least that; a PLiM program may take fewer cells
+-- what a budget that was enough says of the need: for MAGIC at level 0 it is at least that; a PLiM program, or one of a tidied graph,
+-- may take fewer cells
 abbrev pub IsEnough : Target → Level → NetView → ℕ → Type 0
-IsEnough Magic Zero n budget = need n Magic ≤ budget
-IsEnough Plim Zero n budget = Unit {0}
+IsEnough Magic level.Zero n budget = need n Magic ≤ budget
+IsEnough Magic level.One n budget = Unit {0}
+IsEnough Magic level.Two n budget = Unit {0}
+IsEnough Plim effort n budget = Unit {0}
 
 -- the flat graph keeps the limit of AND nodes, and the budget is enough
-pub record IsAccepted (n : NetView) (target : Target) (level : Level) (budget : ℕ) : Type 0 where
+pub record IsAccepted (n : NetView) (target : Target) (effort : Level) (budget : ℕ) : Type 0 where
   pub few : ands n ≤ MAX_ANDS
-  pub enough : IsEnough target level n budget
+  pub enough : IsEnough target effort n budget
 
 -- the flat graph keeps the limit of AND nodes, so many cells are needed, and the budget is below them
 pub record IsShort (n : NetView) (target : Target) (budget needed : ℕ) : Type 0 where

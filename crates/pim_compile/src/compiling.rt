@@ -9,7 +9,8 @@ ghost use Rattle.pim_isa.specs.declared.target.Target.TheVariants as target_is;
 ghost use Rattle.pim_simpler.specs.Batching.{Batched};
 ghost use Rattle.pim_compile.specs.Choices.{IsChosen};
 ghost use Rattle.pim_compile.specs.Computes.{Computes};
-ghost use Rattle.pim_compile.specs.Networks.{FollowsSome, TakesCycles, coarse_need, coarse_of, need, need_of, nors_of_two};
+ghost use Rattle.pim_compile.specs.Cycles.{IsQuick, TakesCycles};
+ghost use Rattle.pim_compile.specs.Networks.{FollowsSome, coarse_need, coarse_of, need, need_of, nors_of_two};
 ghost use Rattle.pim_compile.specs.Refusals.{IsAccepted, IsCoarse, IsRefusal};
 ghost use Rattle.pim_compile.specs.Targets.{OnMagic, OnPlim};
 ghost use Rattle.pim_compile.specs.inner.Candidates.{IsBase, IsScarce, IsScheduled};
@@ -28,6 +29,10 @@ use std::alloc::Global;
 pub enum Level {
     /// Nothing: the netlist is taken as it is.
     Zero,
+    /// The tidied graph is tried too, for PLiM as a graph of majorities.
+    One,
+    /// For PLiM that graph is rewritten as well; for MAGIC nothing more is done.
+    Two,
 }
 
 /// How many cells a netlist needs: `compile` refuses only budgets below it, and for MAGIC at level 0 all of these. It takes
@@ -58,9 +63,10 @@ fn needed(alloc: Global, aig: &Aig, target: Target) -> Result<u32, NoMemory>
 ///
 /// The netlist is flattened. For MAGIC the flat graph is lowered to NOR gates of up to four operands, and again to gates of
 /// up to two. Each of these networks is scheduled, if the budget is at least the cells that it needs, with cells taken again
-/// as soon as their value is needed no longer. The program with fewer cycles is taken, and the first one if they have as
-/// many. For PLiM the flat graph itself is scheduled, and a gate takes over the cell of an operand that it alone reads. It
-/// takes n log n for n gates. Too many nodes come before too few cells.
+/// as soon as their value is needed no longer. Above level 0 the two networks of the tidied graph come before these, if they
+/// have no more NORs than the flat graph's of up to two operands. The program with the fewest cycles is taken, and the first
+/// one if several have as many. For PLiM the flat graph itself is scheduled, and a gate takes over the cell of an operand
+/// that it alone reads. It takes n log n for n gates. Too many nodes come before too few cells.
 pub fn compile(
     alloc: Global,
     net: &Net,
@@ -79,9 +85,10 @@ pub fn compile(
     ensures batched { IfOk result (λ program. OnMagic target (Batched program)) }
     ensures nors { IfOk result (λ program. OnMagic target (length (nor_places program.instrs) ≤ nors_of_two net.now)) }
     ensures chosen { IfOk result (λ program. OnMagic target (IsChosen level net.now budget program)) }
+    ensures quick { IfOk result (λ program. OnMagic target (IsQuick level net.now budget program)) }
 
-    // For PLiM the cycles are those of the flat graph's gates.
-    ensures cycles { IfOk result (λ program. OnPlim target (TakesCycles level program net.now)) }
+    // For PLiM the cycles are those of the flat graph's gates, or fewer above level 0.
+    ensures cycles { IfOk result (λ program. OnPlim target (TakesCycles level net.now budget program)) }
 
     // Too few cells come only where the budget is below the need, and for MAGIC at level 0 exactly there.
     ensures accepted { OnOk result (IsAccepted net.now target level budget) }
@@ -109,8 +116,9 @@ fn scheduled(
     ensures refused { IfErr result (IsScarce (need_of aig.now target) (coarse_of aig.now target) budget) }
 {
     match (target, level) {
-        (Target::Magic, Level::Zero) => magic::compiled(alloc, aig, ports, budget),
+        (Target::Magic, _) => magic::compiled(alloc, aig, ports, level, budget),
         (Target::Plim, Level::Zero) => plain(alloc, aig, ports, budget),
+        (Target::Plim, _) => plain(alloc, aig, ports, budget),
     }
 }
 

@@ -5,6 +5,7 @@ mod compiling;
 mod magic;
 mod ports;
 mod refusal;
+mod shorter;
 #[cfg(test)]
 mod tests;
 

@@ -134,10 +134,13 @@ fn node_of(children: &[u32]) -> Node
     requires { length children.now ≤ 4 }
     ensures { IsNodeOf children.now result }
 {
-    let mut list = [0; 4];
-    for (k, child) in children.iter().enumerate() {
-        list[k] = *child;
-    }
+    let list = match children {
+        [a] => [*a, 0, 0, 0],
+        [a, b] => [*a, *b, 0, 0],
+        [a, b, c] => [*a, *b, *c, 0],
+        [a, b, c, d] => [*a, *b, *c, *d],
+        _ => [0; 4],
+    };
     Node {
         count: children.len() as u32,
         list,

@@ -2,3 +2,5 @@
 pub mod DepthFirst
 pub mod Drivers
 pub mod Judged
+pub mod ListsViews
+pub mod Stores

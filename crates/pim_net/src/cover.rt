@@ -1,6 +1,7 @@
-ghost use Rattle.std.specs.Prelude.{◌≡◌, ◌<◌, ◌≤◌, ◌+◌, ◌*◌, ◌++◌, ◌∷◌, [], All, length, IfOk, OnOk, OnErr, Some, slice_get};
+ghost use Rattle.std.specs.Prelude.{◌≡◌, ◌<◌, ◌≤◌, ◌+◌, ◌++◌, ◌∷◌, [], All, length, IfOk, OnOk, OnErr, Some, slice_get};
 ghost use Rattle.pim_net.specs.declared.limits.TheConstants.{MAX_COLUMNS, MAX_ROWS, MAX_SIGNALS};
 
+use crate::lists::Lists;
 use pim_io::NoMemory;
 use std::alloc::Global;
 use std::marker::Model;
@@ -16,35 +17,43 @@ pub enum Bit3 {
     Any,
 }
 
+/// Two columns, and a row of them.
+#[derive(Clone, Copy, Debug)]
+pub(crate) struct OneRow {
+    pub(crate) ins: [u32; 2],
+    pub(crate) row: [Bit3; 2],
+}
+
+/// Where the columns and rows of a cover stand. A cover of two columns and at most one row, as most are, takes no memory of
+/// its own, and is near to the covers before and behind it.
+#[derive(Debug, Drop)]
+pub(crate) enum Store {
+    /// Two columns and no row.
+    Columns([u32; 2]),
+    /// Two columns and one row.
+    Row(OneRow),
+    /// As many as there are.
+    Lists(Box<Lists>),
+}
+
 /// A sum of products: it is `phase` where some row holds, and otherwise not `phase`. A row holds where each column that
 /// it asks has the value that it asks for.
 #[derive(Debug, Drop)]
 pub struct Cover {
-    ins: Vec<u32>,
-    cells: Vec<Bit3>,
-    count: u32,
+    store: Store,
     phase: bool,
+    alloc: Global,
 }
 
 impl Model for Cover {
-    ghost use Rattle.std.specs.Prelude.{◌≡◌, ◌≤◌, ◌<◌, ◌*◌, All, length};
-    ghost use Rattle.pim_net.specs.declared.limits.TheConstants.{MAX_COLUMNS, MAX_ROWS, MAX_SIGNALS};
-    ghost use Rattle.pim_net.specs.Covers.{CoverView, rows_of};
+    ghost use Rattle.pim_net.specs.Covers.{CoverView};
+    ghost use Rattle.pim_net.specs.inner.Stores.{IsStore, store_ins, store_rows};
 
     ghost Value = { CoverView };
 
-    ghost view = { λ c. record {
-      ins = c.ins.items;
-      rows = rows_of (length c.ins.items) c.count c.cells.items;
-      phase = c.phase;
-    } };
+    ghost view = { λ c. record { ins = store_ins c.store; rows = store_rows c.store; phase = c.phase } };
 
-    ghost invariant = { λ c. record {
-      filled : length c.cells.items ≡ c.count * length c.ins.items;
-      below : All (λ s. s < MAX_SIGNALS) c.ins.items;
-      narrow : length c.ins.items < MAX_COLUMNS;
-      short : c.count ≤ MAX_ROWS;
-    } };
+    ghost invariant = { λ c. IsStore c.store };
 }
 
 impl Cover {
@@ -56,22 +65,15 @@ impl Cover {
         requires narrow { length ins.now < MAX_COLUMNS }
         ensures { IfOk result (λ cover. cover ≡ record { ins = ins.now; rows = []; phase = phase }) }
     {
-        let ins = Vec::from_slice(alloc, ins)?;
-        Ok(Cover::from_vec(alloc, ins, phase))
-    }
-
-    /// A cover of these columns with no rows, which keeps the list that it is given. It takes no memory.
-    pub fn from_vec(alloc: Global, ins: Vec<u32>, phase: bool) -> Cover
-        requires below { All (λ s. s < MAX_SIGNALS) ins.items }
-        requires narrow { length ins.items < MAX_COLUMNS }
-        ensures { result ≡ record { ins = ins.items; rows = []; phase = phase } }
-    {
-        Cover {
-            ins,
-            cells: Vec::new(alloc),
-            count: 0,
+        let store = match ins {
+            [first, second] => Store::Columns([*first, *second]),
+            _ => Store::Lists(Box::new(alloc, Lists::new(alloc, ins)?)?),
+        };
+        Ok(Cover {
+            store,
             phase,
-        }
+            alloc,
+        })
     }
 
     /// Adds a row, one cell per column. After a refusal the cover is as before. Linear in the columns.
@@ -81,8 +83,20 @@ impl Cover {
         ensures ok { OnOk result (self.new ≡ record self.old { rows = self.old.rows ++ row.now ∷ [] }) }
         ensures err { OnErr result (self.new ≡ self.old) }
     {
-        self.cells.extend_from_slice(row)?;
-        self.count += 1;
+        match &mut self.store {
+            Store::Columns(ins) => {
+                let only = OneRow {
+                    ins: *ins,
+                    row: [row[0], row[1]],
+                };
+                self.store = Store::Row(only);
+            }
+            Store::Row(first) => {
+                let lists = two_rows(self.alloc, *first, row)?;
+                self.store = Store::Lists(lists);
+            }
+            Store::Lists(lists) => lists.add_row(row)?,
+        }
         Ok(())
     }
 
@@ -99,7 +113,11 @@ impl Cover {
         ensures below { All (λ s. s < MAX_SIGNALS) result.now }
         ensures narrow { length result.now < MAX_COLUMNS }
     {
-        self.ins.as_slice()
+        match &self.store {
+            Store::Columns(ins) => ins.as_slice(),
+            Store::Row(only) => only.ins.as_slice(),
+            Store::Lists(lists) => lists.ins(),
+        }
     }
 
     /// How many rows there are.
@@ -108,7 +126,11 @@ impl Cover {
         ensures whole { All (λ row. length row ≡ length self.now.ins) self.now.rows }
         ensures short { result ≤ MAX_ROWS }
     {
-        self.count
+        match &self.store {
+            Store::Columns(_) => 0,
+            Store::Row(_) => 1,
+            Store::Lists(lists) => lists.row_count(),
+        }
     }
 
     /// The cells of row k, one per column.
@@ -117,9 +139,11 @@ impl Cover {
         ensures row { slice_get self.now.rows k ≡ Some result.now }
         ensures whole { length result.now ≡ length self.now.ins }
     {
-        let width = self.ins.len();
-        let start = k as usize * width;
-        &self.cells[start..start + width]
+        match &self.store {
+            Store::Columns(_) => unreachable!(),
+            Store::Row(only) => only.row.as_slice(),
+            Store::Lists(lists) => lists.row(k),
+        }
     }
 
     /// What the cover is where some row holds.
@@ -128,4 +152,16 @@ impl Cover {
     {
         self.phase
     }
+}
+
+/// Lists of a row, and of a second behind it.
+fn two_rows(alloc: Global, first: OneRow, second: &[Bit3]) -> Result<Box<Lists>, NoMemory>
+    requires below { All (λ s. s < MAX_SIGNALS) first.ins }
+    requires second { length second.now ≡ length first.ins }
+    ensures { IfOk result (λ lists. lists.value ≡ record { ins = first.ins; rows = first.row ∷ second.now ∷ [] }) }
+{
+    let mut lists = Lists::new(alloc, &first.ins)?;
+    lists.add_row(&first.row)?;
+    lists.add_row(second)?;
+    Ok(Box::new(alloc, lists)?)
 }

@@ -10,6 +10,7 @@ mod judge;
 mod kind;
 mod levels;
 mod limits;
+mod lists;
 mod mark;
 mod names;
 mod net;

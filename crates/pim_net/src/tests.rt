@@ -15,7 +15,7 @@ fn keeps_the_parts_of_a_cover(rt: HostRuntime) -> Result<(), Fail> {
 
 #[test]
 fn changes_the_phase_of_a_cover(rt: HostRuntime) -> Result<(), Fail> {
-    let mut cover = Cover::from_vec(rt.alloc(), vec![in rt.alloc(); 4]?, true);
+    let mut cover = Cover::new(rt.alloc(), &[4], true)?;
     cover.set_phase(false);
     assert!(rt; cover.ins() == [4].as_slice());
     assert!(rt; !cover.phase());

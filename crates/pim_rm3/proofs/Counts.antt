@@ -19,16 +19,16 @@ two : (b : Bool) (i j k h : Instr) → length (cond b (i ∷ j ∷ []) (k ∷ h 
 two true i j k h = refl
 two false i j k h = refl
 
-load_length : (g : AigView) (cells : List ℕ) (z : ℕ) (e : Lit) → length (load g cells z e) ≡ 2
-load_length g cells z e = two (is_inverted e) _ _ _ _
+load_length : (ins : ℕ) (cells : List ℕ) (z : ℕ) (e : Lit) → length (load ins cells z e) ≡ 2
+load_length ins cells z e = two (is_inverted e) _ _ _ _
 
 gate_length : (g : AigView) (cells : List ℕ) (z l : ℕ) (over : Option ℕ) (t : Gate) → length (gate_instrs g cells z over l t) ≡ cost_of over t
 gate_length g cells z l over (gate.Constant b) = refl
 gate_length g cells z l over gate.Input = refl
-gate_length g cells z l over (gate.Not m) = load_length g cells z (record { 0 = l })
+gate_length g cells z l over (gate.Not m) = load_length g.inputs cells z (record { 0 = l })
 gate_length g cells z l None (gate.And x y) =
-    let a = length-append (load g cells z x) (narrow g cells z y ∷ []) in
-    let b = load_length g cells z x in
+    let a = length-append (load g.inputs cells z x) (narrow g.inputs cells z y ∷ []) in
+    let b = load_length g.inputs cells z x in
     omega arith
 gate_length g cells z l (Some c) (gate.And x y) = refl
 
@@ -61,22 +61,22 @@ sum_few f few (x ∷ xs) = let a = sum_by-cons f x xs in let b = few x in let r 
 pub cost_within : (g : AigView) → rm3_cost g ≤ 3 * length (gates g)
 cost_within g = sum_few (λ l. cost_of (taken g l) (gate_of g l)) (λ l. cost_few (taken g l) (gate_of g l)) (gates g)
 
-pub labels_kept : (g : AigView) (cells : List ℕ) (os : List Lit) (labels : List (List ℕ)) → length labels ≡ length os → labels_of (output_ports g cells os labels) ≡ labels
-labels_kept g cells [] [] h = refl
-labels_kept g cells [] (x ∷ labels) h = absurd (omega arith)
-labels_kept g cells (o ∷ os) [] h = absurd (omega arith)
-labels_kept g cells (o ∷ os) (x ∷ labels) h = ap (λ (xs : List (List ℕ)). x ∷ xs) (labels_kept g cells os labels (omega arith))
+pub labels_kept : (ins : ℕ) (cells : List ℕ) (os : List Lit) (labels : List (List ℕ)) → length labels ≡ length os → labels_of (output_ports ins cells os labels) ≡ labels
+labels_kept ins cells [] [] h = refl
+labels_kept ins cells [] (x ∷ labels) h = absurd (omega arith)
+labels_kept ins cells (o ∷ os) [] h = absurd (omega arith)
+labels_kept ins cells (o ∷ os) (x ∷ labels) h = ap (λ (xs : List (List ℕ)). x ∷ xs) (labels_kept ins cells os labels (omega arith))
 
 -- the output ports read what the outputs are
-pub ports_hold : (g : AigView) (cells : List ℕ) (bits r : List Bool) (os : List Lit) (labels : List (List ℕ)) → length labels ≡ length os → ((k : ℕ) (d : Lit) → k < length os → bit r (output_cell g cells (get_or os k d)) ≡ aval g bits (get_or os k d)) → map (λ p. bit r p.cell) (output_ports g cells os labels) ≡ map (aval g bits) os
-ports_hold g cells bits r [] labels h all = refl
-ports_hold g cells bits r (o ∷ os) [] h all = absurd (omega arith)
-ports_hold g cells bits r (o ∷ os) (x ∷ labels) h all =
-    let here : bit r (output_cell g cells o) ≡ aval g bits o = all 0 o (omega arith) in
-    let rest = ports_hold g cells bits r os labels (omega arith) (λ k d l. all (suc k) d (omega arith)) in
-    ap (λ (b : Bool). b ∷ map (λ p. bit r p.cell) (output_ports g cells os labels)) here ∙ ap (λ (bs : List Bool). aval g bits o ∷ bs) rest
+pub ports_hold : (ins : ℕ) (cells : List ℕ) (val : Lit → Bool) (r : List Bool) (os : List Lit) (labels : List (List ℕ)) → length labels ≡ length os → ((k : ℕ) (d : Lit) → k < length os → bit r (output_cell ins cells (get_or os k d)) ≡ val (get_or os k d)) → map (λ p. bit r p.cell) (output_ports ins cells os labels) ≡ map (val) os
+ports_hold ins cells val r [] labels h all = refl
+ports_hold ins cells val r (o ∷ os) [] h all = absurd (omega arith)
+ports_hold ins cells val r (o ∷ os) (x ∷ labels) h all =
+    let here : bit r (output_cell ins cells o) ≡ val o = all 0 o (omega arith) in
+    let rest = ports_hold ins cells val r os labels (omega arith) (λ k d l. all (suc k) d (omega arith)) in
+    ap (λ (b : Bool). b ∷ map (λ p. bit r p.cell) (output_ports ins cells os labels)) here ∙ ap (λ (bs : List Bool). val o ∷ bs) rest
 
-pub ports_count : (g : AigView) (cells : List ℕ) (os : List Lit) (labels : List (List ℕ)) → length labels ≡ length os → length (output_ports g cells os labels) ≡ length os
-ports_count g cells [] labels h = refl
-ports_count g cells (o ∷ os) [] h = absurd (omega arith)
-ports_count g cells (o ∷ os) (x ∷ labels) h = let r = ports_count g cells os labels (omega arith) in omega arith
+pub ports_count : (ins : ℕ) (cells : List ℕ) (os : List Lit) (labels : List (List ℕ)) → length labels ≡ length os → length (output_ports ins cells os labels) ≡ length os
+ports_count ins cells [] labels h = refl
+ports_count ins cells (o ∷ os) [] h = absurd (omega arith)
+ports_count ins cells (o ∷ os) (x ∷ labels) h = let r = ports_count ins cells os labels (omega arith) in omega arith

@@ -34,7 +34,7 @@ realizes g ports a s laws complete ins outs =
       keeps_inputs = λ k c i e l. fits_writes g.inputs a.width i c (all_get (Fits g.inputs a.width) is k i fit e) (inl (omega arith));
       gives_outputs = λ m bits len wide start.
           let row : take g.inputs m ≡ bits = ap (λ (n : ℕ). take n m) (sym ins) ∙ start in
-          ports_hold g a.cells bits (exec is m) g.outputs ports.outputs outs (λ k d h. output_holds g a bits m k d s laws complete (len ∙ ins) wide row h);
+          ports_hold g.inputs a.cells (aval g bits) (exec is m) g.outputs ports.outputs outs (λ k d h. output_holds g a bits m k d s laws complete (len ∙ ins) wide row h);
       keeps_length = λ m. laws.keeps_length is m;
       keeps_others = λ m c h. laws.keeps_others is m c (λ k d l. fits_writes g.inputs a.width (get_or is k d) c (fit k d l) (inr h));
     }
@@ -56,11 +56,11 @@ range_distinct n = λ i j d l h same.
     let f = get_or-range_with_len 0 n j d b in
     absurd (omega arith)
 
-ports_within : (g : AigView) (cells : List ℕ) (w : ℕ) (os : List Lit) (labels : List (List ℕ)) → ((k : ℕ) (d : Lit) → k < length os → output_cell g cells (get_or os k d) < w) → All (λ c. c < w) (cells_of (output_ports g cells os labels))
-ports_within g cells w [] labels h = λ k d l. absurd (omega arith)
-ports_within g cells w (o ∷ os) [] h = λ k d l. absurd (omega arith)
-ports_within g cells w (o ∷ os) (x ∷ labels) h =
-    All-cons (λ c. c < w) (output_cell g cells o) (cells_of (output_ports g cells os labels)) (h 0 o (omega arith)) (ports_within g cells w os labels (λ k d l. h (suc k) d (omega arith)))
+ports_within : (ins : ℕ) (cells : List ℕ) (w : ℕ) (os : List Lit) (labels : List (List ℕ)) → ((k : ℕ) (d : Lit) → k < length os → output_cell ins cells (get_or os k d) < w) → All (λ c. c < w) (cells_of (output_ports ins cells os labels))
+ports_within ins cells w [] labels h = λ k d l. absurd (omega arith)
+ports_within ins cells w (o ∷ os) [] h = λ k d l. absurd (omega arith)
+ports_within ins cells w (o ∷ os) (x ∷ labels) h =
+    All-cons (λ c. c < w) (output_cell ins cells o) (cells_of (output_ports ins cells os labels)) (h 0 o (omega arith)) (ports_within ins cells w os labels (λ k d l. h (suc k) d (omega arith)))
 
 pub sound : (g : AigView) (ports : PortsView) (a : AllotmentView) → IsSettled g a → IsComplete g → length ports.inputs ≡ g.inputs → IsSound (program_of g ports a)
 sound g ports a s complete ins =
@@ -70,7 +70,7 @@ sound g ports a s complete ins =
     record {
       inputs = subst P (sym (input_cells ports.inputs 0)) (range_within n a.width (omega (arith, s.allotted.room)));
       distinct = subst Q (sym (input_cells ports.inputs 0)) (range_distinct n);
-      outputs = ports_within g a.cells a.width g.outputs ports.outputs (λ k d h. output_within g a k d s complete h);
+      outputs = ports_within g.inputs a.cells a.width g.outputs ports.outputs (λ k d h. output_within g a k d s complete h);
       instrs = λ k d l. fits_valid g.inputs a.width _ (schedule_fits g a s k d l);
     }
 

@@ -68,42 +68,42 @@ none_get o i n e = cc
 some_is : (x i : Instr) → Some x ≡ Some i → x ≡ i
 some_is x i e = cc
 
-fits_operand : (g : AigView) (cells : List ℕ) (w z : ℕ) (e : Lit) → (0 < e.0 / 2 → (cell_of g cells e < w) × (cell_of g cells e ≢ z)) → FitsOperand w z (operand_of g cells e)
-fits_operand g cells w z e h = elim (eqb_tells (e.0 / 2) 0) [
+fits_operand : (ins : ℕ) (cells : List ℕ) (w z : ℕ) (e : Lit) → (0 < e.0 / 2 → (cell_of ins cells e < w) × (cell_of ins cells e ≢ z)) → FitsOperand w z (operand_of ins cells e)
+fits_operand ins cells w z e h = elim (eqb_tells (e.0 / 2) 0) [
   | inl t ↦
-      let P : Bool → Type 0 = λ b. FitsOperand w z (cond b (cond (eqb e.0 0) operand.Zero operand.One) (operand.Cell (cell_of g cells e))) in
+      let P : Bool → Type 0 = λ b. FitsOperand w z (cond b (cond (eqb e.0 0) operand.Zero operand.One) (operand.Cell (cell_of ins cells e))) in
       subst P (sym t.0) (constants w z (eqb e.0 0))
   | inr f ↦
-      let P : Bool → Type 0 = λ b. FitsOperand w z (cond b (cond (eqb e.0 0) operand.Zero operand.One) (operand.Cell (cell_of g cells e))) in
+      let P : Bool → Type 0 = λ b. FitsOperand w z (cond b (cond (eqb e.0 0) operand.Zero operand.One) (operand.Cell (cell_of ins cells e))) in
       subst P (sym f.0) (h (omega (arith, f.1)))
 ]
 
 inverted_some : (e : Lit) → is_inverted e ≡ true → 0 < e.0 / 2
 inverted_some e h = grind (arith, nat_tests)
 
-fits_narrow_by : (g : AigView) (cells : List ℕ) (f w z : ℕ) (e : Lit) → f ≤ z → z < w → (0 < e.0 / 2 → (cell_of g cells e < w) × (cell_of g cells e ≢ z)) → Fits f w (narrow_by g cells z e)
-fits_narrow_by g cells f w z e a b h = elim (bool_cases (is_inverted e)) [
-  | inl inv ↦ subst (Fits f w) (sym (narrow_by_is g cells z e true inv)) (a, b, tt, h (inverted_some e inv))
-  | inr plain ↦ subst (Fits f w) (sym (narrow_by_is g cells z e false plain)) (a, b, fits_operand g cells w z e h, tt)
+fits_narrow_by : (ins : ℕ) (cells : List ℕ) (f w z : ℕ) (e : Lit) → f ≤ z → z < w → (0 < e.0 / 2 → (cell_of ins cells e < w) × (cell_of ins cells e ≢ z)) → Fits f w (narrow_by ins cells z e)
+fits_narrow_by ins cells f w z e a b h = elim (bool_cases (is_inverted e)) [
+  | inl inv ↦ subst (Fits f w) (sym (narrow_by_is ins cells z e true inv)) (a, b, tt, h (inverted_some e inv))
+  | inr plain ↦ subst (Fits f w) (sym (narrow_by_is ins cells z e false plain)) (a, b, fits_operand ins cells w z e h, tt)
 ]
 
 zero_half : (o : Bool) → 0 < cond {A = ℕ} o 0 1 / 2 → ⊥
 zero_half true h = absurd (omega arith)
 zero_half false h = absurd (omega arith)
 
-fits_narrow : (g : AigView) (cells : List ℕ) (f w z : ℕ) (e : Lit) → f ≤ z → z < w → (0 < e.0 / 2 → cell_of g cells e < w) → Fits f w (narrow g cells z e)
-fits_narrow g cells f w z e a b h =
+fits_narrow : (ins : ℕ) (cells : List ℕ) (f w z : ℕ) (e : Lit) → f ≤ z → z < w → (0 < e.0 / 2 → cell_of ins cells e < w) → Fits f w (narrow ins cells z e)
+fits_narrow ins cells f w z e a b h =
     let S : Bool → Lit = λ t. cond t (record { 0 = cond (eqb (e.0 % 2) 1) 0 1 }) e in
-    let P : Bool → Type 0 = λ t. 0 < (S t).0 / 2 → (cell_of g cells (S t) < w) × (cell_of g cells (S t) ≢ z) in
-    fits_narrow_by g cells f w z (settled g cells z e) a b (elim (bool_cases (nat_lt 0 (e.0 / 2) && eqb (cell_of g cells e) z)) [
+    let P : Bool → Type 0 = λ t. 0 < (S t).0 / 2 → (cell_of ins cells (S t) < w) × (cell_of ins cells (S t) ≢ z) in
+    fits_narrow_by ins cells f w z (settled ins cells z e) a b (elim (bool_cases (nat_lt 0 (e.0 / 2) && eqb (cell_of ins cells e) z)) [
       | inl own ↦ subst P (sym own) (λ some. absurd (zero_half (eqb (e.0 % 2) 1) some))
-      | inr other ↦ subst P (sym other) (λ some. (h some, λ same. apart_from_own (e.0 / 2) (cell_of g cells e) z other some same))
+      | inr other ↦ subst P (sym other) (λ some. (h some, λ same. apart_from_own (e.0 / 2) (cell_of ins cells e) z other some same))
     ])
 
-fits_load : (g : AigView) (cells : List ℕ) (f w z : ℕ) (e : Lit) → f ≤ z → z < w → (0 < e.0 / 2 → (cell_of g cells e < w) × (cell_of g cells e ≢ z)) → All (Fits f w) (load g cells z e)
-fits_load g cells f w z e a b h = elim (bool_cases (is_inverted e)) [
-  | inl inv ↦ subst (All (Fits f w)) (sym (load_is g cells z e true inv)) (two_fit f w _ _ (a, b, tt, tt) (a, b, tt, h (inverted_some e inv)))
-  | inr plain ↦ subst (All (Fits f w)) (sym (load_is g cells z e false plain)) (two_fit f w _ _ (a, b, tt, tt) (a, b, fits_operand g cells w z e h, tt))
+fits_load : (ins : ℕ) (cells : List ℕ) (f w z : ℕ) (e : Lit) → f ≤ z → z < w → (0 < e.0 / 2 → (cell_of ins cells e < w) × (cell_of ins cells e ≢ z)) → All (Fits f w) (load ins cells z e)
+fits_load ins cells f w z e a b h = elim (bool_cases (is_inverted e)) [
+  | inl inv ↦ subst (All (Fits f w)) (sym (load_is ins cells z e true inv)) (two_fit f w _ _ (a, b, tt, tt) (a, b, tt, h (inverted_some e inv)))
+  | inr plain ↦ subst (All (Fits f w)) (sym (load_is ins cells z e false plain)) (two_fit f w _ _ (a, b, tt, tt) (a, b, fits_operand ins cells w z e h, tt))
 ]
 
 fits_set : (f w z : ℕ) (b : Bool) → f ≤ z → z < w → Fits f w (set_to b z)
@@ -112,8 +112,8 @@ fits_set f w z false a b = (a, b, tt, tt)
 
 -- an operand of the gate at a place
 record OperandFits (g : AigView) (a : AllotmentView) (p : ℕ) (e : Lit) : Type 0 where
-  within : 0 < e.0 / 2 → cell_of g a.cells e < a.width
-  apart : taken g (get_or (gates g) p 0) ≡ None → 0 < e.0 / 2 → cell_of g a.cells e ≢ get_or a.cells (get_or (gates g) p 0) 0
+  within : 0 < e.0 / 2 → cell_of g.inputs a.cells e < a.width
+  apart : taken g (get_or (gates g) p 0) ≡ None → 0 < e.0 / 2 → cell_of g.inputs a.cells e ≢ get_or a.cells (get_or (gates g) p 0) 0
 
 has_of_take : (xs : List ℕ) (p y : ℕ) → has (take p xs) y ≡ true → has xs y ≡ true
 has_of_take [] zero y h = absurd (false≢true h)
@@ -131,7 +131,7 @@ operand_fits g a p e s h child =
     let from = s.allotted.from l (has_whole xs p h) in
     elim (leb_tells (e.0 / 2) g.inputs) [
       | inl i ↦
-          let cell = cell_input g a.cells e i.1 in
+          let cell = cell_input g.inputs a.cells e i.1 in
           record {
             within = λ some. omega (arith, i.1, s.allotted.room);
             apart = λ none some same. absurd (omega (arith, i.1));
@@ -140,7 +140,7 @@ operand_fits g a p e s h child =
           let k = 2 * (e.0 / 2) in
           let kid = child b.1 in
           let before : has (take p xs) k ≡ true = all_has (λ y. has (take p xs) y ≡ true) (kids_of (gate_graph g) l) k (s.placed.after p h) kid in
-          let cell = cell_gate g a.cells e b.1 in
+          let cell = cell_gate g.inputs a.cells e b.1 in
           record {
             within = λ some. let w = s.allotted.within k (has_of_take xs p k before) in omega arith;
             apart = λ none some same. s.allotted.apart p k h before (kid_needed g p k h kid) (λ o. none_some (taken g l) k none (sym (taken_map g p h) ∙ o)) (sym cell ∙ same);
@@ -169,7 +169,7 @@ gate_fits g a p s h (inverse some odd is) =
     ∙ inverse_read g (record { 0 = l - 1 }) over in
     let fit = operand_fits g a p e s h child in
     let P : Gate → Type 0 = λ t. All (Fits g.inputs a.width) (gate_instrs g a.cells z (taken g l) l t) in
-    subst P (sym is) (fits_load g a.cells g.inputs a.width z e (s.allotted.from l (has_whole (gates g) p h)) (s.allotted.within l (has_whole (gates g) p h)) (λ q. (fit.within q, fit.apart (ap (taken_of g) is) q)))
+    subst P (sym is) (fits_load g.inputs a.cells g.inputs a.width z e (s.allotted.from l (has_whole (gates g) p h)) (s.allotted.within l (has_whole (gates g) p h)) (λ q. (fit.within q, fit.apart (ap (taken_of g) is) q)))
 gate_fits g a p s h (input some even few is) =
     absurd (not_input g (get_or (gates g) p 0) (s.there p 0 h) (s.reached p 0 h) some even few)
 gate_fits g a p s h (meet even above is) =
@@ -187,10 +187,10 @@ gate_fits g a p s h (meet even above is) =
     let P : Gate → Type 0 = λ t. All (Fits f w) (gate_instrs g a.cells z (taken g l) l t) in
     let Q : Option ℕ → Type 0 = λ o. All (Fits f w) (gate_instrs g a.cells z o l (gate.And x y)) in
     subst P (sym is) (elim (option_cases (taken g l)) [
-      | inl none ↦ subst Q (sym none) (All-append (Fits f w) (load g a.cells z x) (narrow g a.cells z y ∷ []) (fits_load g a.cells f w z x lo hi (λ q. (fx.within q, fx.apart none q))) (one_fits f w (narrow g a.cells z y) (fits_narrow g a.cells f w z y lo hi fy.within)))
+      | inl none ↦ subst Q (sym none) (All-append (Fits f w) (load g.inputs a.cells z x) (narrow g.inputs a.cells z y ∷ []) (fits_load g.inputs a.cells f w z x lo hi (λ q. (fx.within q, fx.apart none q))) (one_fits f w (narrow g.inputs a.cells z y) (fits_narrow g.inputs a.cells f w z y lo hi fy.within)))
       | inr some ↦
-          let R : Lit → Type 0 = λ e. Fits f w (narrow g a.cells z e) in
-          subst Q (sym some.1) (one_fits f w (narrow g a.cells z (cond (eqb x.0 some.0) y x)) (pick (eqb x.0 some.0) y x R (fits_narrow g a.cells f w z y lo hi fy.within) (fits_narrow g a.cells f w z x lo hi fx.within)))
+          let R : Lit → Type 0 = λ e. Fits f w (narrow g.inputs a.cells z e) in
+          subst Q (sym some.1) (one_fits f w (narrow g.inputs a.cells z (cond (eqb x.0 some.0) y x)) (pick (eqb x.0 some.0) y x R (fits_narrow g.inputs a.cells f w z y lo hi fy.within) (fits_narrow g.inputs a.cells f w z x lo hi fx.within)))
     ])
 
 all_flat : (P : Instr → Type 0) (f : ℕ → List Instr) (xs : List ℕ) → ((k : ℕ) → k < length xs → All P (f (get_or xs k 0))) → All P (flat_map f xs)

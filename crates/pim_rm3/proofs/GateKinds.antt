@@ -5,7 +5,7 @@ use Rattle.std.proofs.lemmas.Bool.Decides.{nat_tests, eqb_tells, leb_tells}
 use Rattle.std.proofs.lemmas.List.FromFn.{get_or-map-range_with_len}
 use Rattle.pim_aig.specs.Graph.{AigView, nodes}
 use Rattle.pim_aig.specs.Laws.{ValueLaws}
-use Rattle.pim_aig.specs.Values.{aval, node_values}
+use Rattle.pim_aig.specs.Values.{aval, literal_value, node_values}
 use Rattle.pim_aig.specs.declared.graph.And.{And}
 use Rattle.pim_aig.specs.declared.literal.Lit.{Lit}
 use Rattle.pim_graph.specs.Graphs.{has, kids_of}
@@ -44,7 +44,7 @@ kind_of g l = elim (eqb_tells (l / 2) 0) [
 pub kids_at : (g : AigView) (l : ℕ) → l < 2 * nodes g → kids_of (gate_graph g) l ≡ ands_read g (gate_of g l)
 kids_at g l h = get_or-map-range_with_len (λ k. ands_read g (gate_of g k)) 0 (2 * nodes g) l l [] h (omega arith)
 
-or_true : (b c : Bool) → c ≡ true → (b || c) ≡ true
+pub or_true : (b c : Bool) → c ≡ true → (b || c) ≡ true
 or_true true c h = refl
 or_true false c h = h
 
@@ -97,13 +97,13 @@ sign_false true = refl
 sign_false false = refl
 
 -- a row that holds a literal's node holds its value
-pub lit_value : (g : AigView) (bits : List Bool) (cells : List ℕ) (m : List Bool) (e : Lit) → node_value g bits 0 ≡ false → (0 < e.0 / 2 → bit m (cell_of g cells e) ≡ node_value g bits (e.0 / 2)) → lit_bit g cells m e ≡ aval g bits e
-lit_value g bits cells m e none held = elim (eqb_tells (e.0 / 2) 0) [
+pub lit_value : (ins : ℕ) (values : List Bool) (cells : List ℕ) (m : List Bool) (e : Lit) → get_or values 0 false ≡ false → (0 < e.0 / 2 → bit m (cell_of ins cells e) ≡ get_or values (e.0 / 2) false) → lit_bit ins cells m e ≡ literal_value values e
+lit_value ins values cells m e none held = elim (eqb_tells (e.0 / 2) 0) [
   | inl z ↦
-      ap (λ (b : Bool). cond b (eqb (e.0 % 2) 1) (cond (eqb (e.0 % 2) 1) (not (bit m (cell_of g cells e))) (bit m (cell_of g cells e)))) z.0
-      ∙ sym (ap (λ (b : Bool). cond (eqb (e.0 % 2) 1) (not b) b) (ap (node_value g bits) z.1 ∙ none) ∙ sign_false (eqb (e.0 % 2) 1))
+      ap (λ (b : Bool). cond b (eqb (e.0 % 2) 1) (cond (eqb (e.0 % 2) 1) (not (bit m (cell_of ins cells e))) (bit m (cell_of ins cells e)))) z.0
+      ∙ sym (ap (λ (b : Bool). cond (eqb (e.0 % 2) 1) (not b) b) (ap (λ (n : ℕ). get_or values n false) z.1 ∙ none) ∙ sign_false (eqb (e.0 % 2) 1))
   | inr s ↦
-      ap (λ (b : Bool). cond b (eqb (e.0 % 2) 1) (cond (eqb (e.0 % 2) 1) (not (bit m (cell_of g cells e))) (bit m (cell_of g cells e)))) s.0
+      ap (λ (b : Bool). cond b (eqb (e.0 % 2) 1) (cond (eqb (e.0 % 2) 1) (not (bit m (cell_of ins cells e))) (bit m (cell_of ins cells e)))) s.0
       ∙ ap (λ (b : Bool). cond (eqb (e.0 % 2) 1) (not b) b) (held (omega (arith, s.1)))
 ]
 

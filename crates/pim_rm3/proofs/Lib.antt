@@ -8,3 +8,8 @@ pub mod GateKinds
 pub mod GateOrders
 pub mod Rows
 pub mod Walks
+pub mod Stepping
+pub mod RoleLaws
+pub mod StepLaws
+pub mod FullKids
+pub mod FullOrders

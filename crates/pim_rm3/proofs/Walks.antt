@@ -8,7 +8,7 @@ use Rattle.std.proofs.Math.ListN.{drop_of_length-le}
 use Rattle.std.proofs.Math.Seq.{take-length}
 use Rattle.pim_aig.specs.Graph.{AigView, IsAig, nodes}
 use Rattle.pim_aig.specs.Laws.{ValueLaws}
-use Rattle.pim_aig.specs.Values.{aval}
+use Rattle.pim_aig.specs.Values.{aval, node_values}
 use Rattle.pim_aig.specs.declared.literal.Lit.{Lit}
 use Rattle.pim_graph.specs.Allotments.{AllotmentView, IsAllotment, IsOver, taken_at}
 use Rattle.pim_graph.specs.Graphs.{has, kids_of}
@@ -35,12 +35,12 @@ all_has P (y ∷ ys) x all h = elim (eqb_tells y x) [
   | inr f ↦ all_has P ys x (λ k d l. all (suc k) d (omega arith)) (sym (ap (λ (b : Bool). b || has ys x) f.0) ∙ h)
 ]
 
-or_true : (b c : Bool) → c ≡ true → (b || c) ≡ true
+pub or_true : (b c : Bool) → c ≡ true → (b || c) ≡ true
 or_true true c h = refl
 or_true false c h = h
 
 -- a gate up to a place is at that place or before it
-split : (xs : List ℕ) (x y : ℕ) → has (xs ++ x ∷ []) y ≡ true → (has xs y ≡ true) ⊎ (x ≡ y)
+pub split : (xs : List ℕ) (x y : ℕ) → has (xs ++ x ∷ []) y ≡ true → (has xs y ≡ true) ⊎ (x ≡ y)
 split [] x y h = elim (eqb_tells x y) [
   | inl t ↦ inr t.1
   | inr f ↦ absurd (false≢true (sym (ap (λ (b : Bool). b || false) f.0) ∙ h))
@@ -80,23 +80,23 @@ kid_needed g p k h child =
 
 -- an operand that a gate reads at its place: its node's value is in its cell, which isn't the gate's own unless it is taken over
 record Reads (g : AigView) (a : AllotmentView) (bits m : List Bool) (p : ℕ) (e : Lit) : Type 0 where
-  value : lit_bit g a.cells m e ≡ aval g bits e
-  apart : taken g (get_or (gates g) p 0) ≡ None → (e.0 / 2 ≡ 0) ⊎ (cell_of g a.cells e ≢ get_or a.cells (get_or (gates g) p 0) 0)
+  value : lit_bit g.inputs a.cells m e ≡ aval g bits e
+  apart : taken g (get_or (gates g) p 0) ≡ None → (e.0 / 2 ≡ 0) ⊎ (cell_of g.inputs a.cells e ≢ get_or a.cells (get_or (gates g) p 0) 0)
 
-pub cell_input : (g : AigView) (cells : List ℕ) (e : Lit) → e.0 / 2 ≤ g.inputs → cell_of g cells e ≡ e.0 / 2 - 1
-cell_input g cells e h =
-    let t : nat_le (e.0 / 2) g.inputs ≡ true = grind (arith, nat_tests) in
+pub cell_input : (ins : ℕ) (cells : List ℕ) (e : Lit) → e.0 / 2 ≤ ins → cell_of ins cells e ≡ e.0 / 2 - 1
+cell_input ins cells e h =
+    let t : nat_le (e.0 / 2) ins ≡ true = grind (arith, nat_tests) in
     ap (λ (b : Bool). cond b (e.0 / 2 - 1) (get_or cells (2 * (e.0 / 2)) 0)) t
 
-pub cell_gate : (g : AigView) (cells : List ℕ) (e : Lit) → g.inputs < e.0 / 2 → cell_of g cells e ≡ get_or cells (2 * (e.0 / 2)) 0
-cell_gate g cells e h =
-    let t : nat_le (e.0 / 2) g.inputs ≡ false = grind (arith, nat_tests) in
+pub cell_gate : (ins : ℕ) (cells : List ℕ) (e : Lit) → ins < e.0 / 2 → cell_of ins cells e ≡ get_or cells (2 * (e.0 / 2)) 0
+cell_gate ins cells e h =
+    let t : nat_le (e.0 / 2) ins ≡ false = grind (arith, nat_tests) in
     ap (λ (b : Bool). cond b (e.0 / 2 - 1) (get_or cells (2 * (e.0 / 2)) 0)) t
 
 pub none_some : (o : Option ℕ) (c : ℕ) → o ≡ None → o ≡ Some c → ⊥
 none_some o c n e = cc
 
-last : (xs : List ℕ) (x : ℕ) → has (xs ++ x ∷ []) x ≡ true
+pub last : (xs : List ℕ) (x : ℕ) → has (xs ++ x ∷ []) x ≡ true
 last [] x = let e : eqb x x ≡ true = grind (arith, nat_tests) in ap (λ (b : Bool). b || false) e
 last (y ∷ ys) x = or_true (eqb y x) (has (ys ++ x ∷ []) x) (last ys x)
 
@@ -115,13 +115,13 @@ reads_one g a bits m p e s len holds h child =
     let l = get_or xs p 0 in
     elim (leb_tells (e.0 / 2) g.inputs) [
       | inl i ↦ record {
-        value = lit_value g bits a.cells m e (zero_value g bits s.values) (λ some.
-            ap (bit m) (cell_input g a.cells e i.1) ∙ holds.inputs (e.0 / 2 - 1) (omega (arith, i.1)) ∙ sym (input_value g bits (e.0 / 2) s.values len some i.1));
+        value = lit_value g.inputs (node_values g bits) a.cells m e (zero_value g bits s.values) (λ some.
+            ap (bit m) (cell_input g.inputs a.cells e i.1) ∙ holds.inputs (e.0 / 2 - 1) (omega (arith, i.1)) ∙ sym (input_value g bits (e.0 / 2) s.values len some i.1));
         apart = λ none. elim (eqb_tells (e.0 / 2) 0) [
           | inl z ↦ inl z.1
           | inr f ↦ inr (λ same.
               let from = s.allotted.from l (has_whole xs p h) in
-              let cell = cell_input g a.cells e i.1 in
+              let cell = cell_input g.inputs a.cells e i.1 in
               absurd (omega (arith, i.1, f.1)))
         ];
       }
@@ -133,9 +133,9 @@ reads_one g a bits m p e s len holds h child =
           let half : k / 2 ≡ e.0 / 2 = omega arith in
           let even : k % 2 ≡ 0 = omega arith in
           record {
-            value = lit_value g bits a.cells m e (zero_value g bits s.values) (λ some.
-                ap (bit m) (cell_gate g a.cells e b.1) ∙ holds.held k before need ∙ plain_value g bits k even ∙ ap (node_value g bits) half);
-            apart = λ none. inr (λ same. s.allotted.apart p k h before need (λ o. none_some (taken g l) k none (sym (taken_map g p h) ∙ o)) (sym (cell_gate g a.cells e b.1) ∙ same));
+            value = lit_value g.inputs (node_values g bits) a.cells m e (zero_value g bits s.values) (λ some.
+                ap (bit m) (cell_gate g.inputs a.cells e b.1) ∙ holds.held k before need ∙ plain_value g bits k even ∙ ap (node_value g bits) half);
+            apart = λ none. inr (λ same. s.allotted.apart p k h before need (λ o. none_some (taken g l) k none (sym (taken_map g p h) ∙ o)) (sym (cell_gate g.inputs a.cells e b.1) ∙ same));
           }
     ]
 
@@ -143,24 +143,24 @@ reads_one g a bits m p e s len holds h child =
 instrs_off : (g : AigView) (cells : List ℕ) (m : List Bool) (z c l : ℕ) (over : Option ℕ) (t : Gate) → ExecLaws → c ≢ z → bit (exec (gate_instrs g cells z over l t) m) c ≡ bit m c
 instrs_off g cells m z c l over (gate.Constant b) laws ne = set_off m b z c ne
 instrs_off g cells m z c l over gate.Input laws ne = refl
-instrs_off g cells m z c l over (gate.Not k) laws ne = load_off g cells m z c (record { 0 = l }) ne
+instrs_off g cells m z c l over (gate.Not k) laws ne = load_off g.inputs cells m z c (record { 0 = l }) ne
 instrs_off g cells m z c l None (gate.And x y) laws ne =
-    ap (λ (r : List Bool). bit r c) (laws.append (load g cells z x) (narrow g cells z y ∷ []) m)
-    ∙ narrow_off g cells (exec (load g cells z x) m) z c y ne
-    ∙ load_off g cells m z c x ne
-instrs_off g cells m z c l (Some d) (gate.And x y) laws ne = narrow_off g cells m z c (cond (eqb x.0 d) y x) ne
+    ap (λ (r : List Bool). bit r c) (laws.append (load g.inputs cells z x) (narrow g.inputs cells z y ∷ []) m)
+    ∙ narrow_off g.inputs cells (exec (load g.inputs cells z x) m) z c y ne
+    ∙ load_off g.inputs cells m z c x ne
+instrs_off g cells m z c l (Some d) (gate.And x y) laws ne = narrow_off g.inputs cells m z c (cond (eqb x.0 d) y x) ne
 
 -- an AND on a cell of its own
-and_fresh : (g : AigView) (cells : List ℕ) (m : List Bool) (z l : ℕ) (x y : Lit) → ExecLaws → z < length m → (x.0 / 2 ≡ 0) ⊎ (cell_of g cells x ≢ z) → (y.0 / 2 ≡ 0) ⊎ (cell_of g cells y ≢ z) → bit (exec (gate_instrs g cells z None l (gate.And x y)) m) z ≡ (lit_bit g cells m x && lit_bit g cells m y)
+and_fresh : (g : AigView) (cells : List ℕ) (m : List Bool) (z l : ℕ) (x y : Lit) → ExecLaws → z < length m → (x.0 / 2 ≡ 0) ⊎ (cell_of g.inputs cells x ≢ z) → (y.0 / 2 ≡ 0) ⊎ (cell_of g.inputs cells y ≢ z) → bit (exec (gate_instrs g cells z None l (gate.And x y)) m) z ≡ (lit_bit g.inputs cells m x && lit_bit g.inputs cells m y)
 and_fresh g cells m z l x y laws h ax ay =
-    let n = exec (load g cells z x) m in
-    let len = laws.keeps_length (load g cells z x) m in
-    let near : (y.0 / 2 ≡ 0) ⊎ (bit n (cell_of g cells y) ≡ bit m (cell_of g cells y)) = elim ay [ inl e ↦ inl e | inr d ↦ inr (load_off g cells m z (cell_of g cells y) x d) ] in
-    ap (λ (r : List Bool). bit r z) (laws.append (load g cells z x) (narrow g cells z y ∷ []) m)
-    ∙ narrow_gives g cells n z y (omega arith)
-    ∙ ap (λ (b : Bool). b && bit n z) (lit_same g cells m n y near)
-    ∙ ap (λ (b : Bool). lit_bit g cells m y && b) (load_gives g cells m z x h ax)
-    ∙ and_turns (lit_bit g cells m y) (lit_bit g cells m x)
+    let n = exec (load g.inputs cells z x) m in
+    let len = laws.keeps_length (load g.inputs cells z x) m in
+    let near : (y.0 / 2 ≡ 0) ⊎ (bit n (cell_of g.inputs cells y) ≡ bit m (cell_of g.inputs cells y)) = elim ay [ inl e ↦ inl e | inr d ↦ inr (load_off g.inputs cells m z (cell_of g.inputs cells y) x d) ] in
+    ap (λ (r : List Bool). bit r z) (laws.append (load g.inputs cells z x) (narrow g.inputs cells z y ∷ []) m)
+    ∙ narrow_gives g.inputs cells n z y (omega arith)
+    ∙ ap (λ (b : Bool). b && bit n z) (lit_same g.inputs cells m n y near)
+    ∙ ap (λ (b : Bool). lit_bit g.inputs cells m y && b) (load_gives g.inputs cells m z x h ax)
+    ∙ and_turns (lit_bit g.inputs cells m y) (lit_bit g.inputs cells m x)
 
 pub option_cases : (o : Option ℕ) → (o ≡ None) ⊎ ((c : ℕ) × (o ≡ Some c))
 option_cases None = inl refl
@@ -196,10 +196,10 @@ read_plain g (gate.Not m) y h = with_and_plain g [] m y (λ n. absurd (false≢t
 read_plain g (gate.And x z) y h = with_and_plain g (with_and g [] x) z y (λ n. with_and_plain g [] x y (λ k. absurd (false≢true k)) n) h
 
 -- no input is a root
-root_gate : (g : AigView) (os : List Lit) (roots : List ℕ) (y : ℕ) → (has roots y ≡ true → is_input g (record { 0 = y }) ≡ false) → has (fold (with_root g) roots os) y ≡ true → is_input g (record { 0 = y }) ≡ false
-root_gate g [] roots y old h = old h
-root_gate g (o ∷ os) roots y old h =
-    root_gate g os (with_root g roots o) y (λ n. elim (bool_cases (is_input g o)) [
+root_gate : (ins : ℕ) (os : List Lit) (roots : List ℕ) (y : ℕ) → (has roots y ≡ true → is_input ins (record { 0 = y }) ≡ false) → has (fold (with_root ins) roots os) y ≡ true → is_input ins (record { 0 = y }) ≡ false
+root_gate ins [] roots y old h = old h
+root_gate ins (o ∷ os) roots y old h =
+    root_gate ins os (with_root ins roots o) y (λ n. elim (bool_cases (is_input ins o)) [
       | inl i ↦ old (sym (ap (λ (b : Bool). has (cond b roots (cond (has roots o.0) roots (roots ++ o.0 ∷ []))) y) i) ∙ n)
       | inr j ↦
           let n' : has (cond (has roots o.0) roots (roots ++ o.0 ∷ [])) y ≡ true = sym (ap (λ (b : Bool). has (cond b roots (cond (has roots o.0) roots (roots ++ o.0 ∷ []))) y) j) ∙ n in
@@ -207,17 +207,17 @@ root_gate g (o ∷ os) roots y old h =
             | inl u ↦ old (sym (ap (λ (b : Bool). has (cond b roots (roots ++ o.0 ∷ [])) y) u) ∙ n')
             | inr u ↦ elim (split roots o.0 y (sym (ap (λ (b : Bool). has (cond b roots (roots ++ o.0 ∷ [])) y) u) ∙ n')) [
               | inl q ↦ old q
-              | inr s ↦ ap (λ (k : ℕ). is_input g (record { 0 = k })) (sym s) ∙ j
+              | inr s ↦ ap (λ (k : ℕ). is_input ins (record { 0 = k })) (sym s) ∙ j
             ]
           ]
     ]) h
 
-input_is : (g : AigView) (l : ℕ) → 0 < l / 2 → l % 2 ≡ 0 → l / 2 ≤ g.inputs → is_input g (record { 0 = l }) ≡ true
-input_is g l some even few =
+input_is : (ins : ℕ) (l : ℕ) → 0 < l / 2 → l % 2 ≡ 0 → l / 2 ≤ ins → is_input ins (record { 0 = l }) ≡ true
+input_is ins l some even few =
     let a : eqb (l % 2) 0 ≡ true = grind (arith, nat_tests) in
     let b : nat_lt 0 (l / 2) ≡ true = grind (arith, nat_tests) in
-    let d : nat_le (l / 2) g.inputs ≡ true = grind (arith, nat_tests) in
-    ap (λ (t : Bool). (t && nat_lt 0 (l / 2)) && nat_le (l / 2) g.inputs) a ∙ ap (λ (t : Bool). t && nat_le (l / 2) g.inputs) b ∙ d
+    let d : nat_le (l / 2) ins ≡ true = grind (arith, nat_tests) in
+    ap (λ (t : Bool). (t && nat_lt 0 (l / 2)) && nat_le (l / 2) ins) a ∙ ap (λ (t : Bool). t && nat_le (l / 2) ins) b ∙ d
 
 get_or_past : (ks : List (List ℕ)) (r : ℕ) → length ks ≤ r → get_or ks r [] ≡ []
 get_or_past [] r h = refl
@@ -239,7 +239,7 @@ kid_plain g r l h = elim (kids_past g r l h) [
 -- no input is a gate of the order
 pub not_input : (g : AigView) (l : ℕ) → l < 2 * nodes g → IsReached (gate_graph g) l → 0 < l / 2 → l % 2 ≡ 0 → l / 2 ≤ g.inputs → ⊥
 not_input g l there (as_root h) some even few =
-    false≢true (sym (root_gate g g.outputs [] l (λ n. absurd (false≢true n)) h) ∙ input_is g l some even few)
+    false≢true (sym (root_gate g.inputs g.outputs [] l (λ n. absurd (false≢true n)) h) ∙ input_is g.inputs l some even few)
 not_input g l there (as_child {reader = r} before h) some even few = let k = kid_plain g r l h in omega (arith, k.above)
 
 second_one : (g : AigView) (l c : ℕ) → IsTakenOver g l c → (c ≡ (and_of g (l / 2 - 1 - g.inputs)).x.0 → ⊥) → c ≡ (and_of g (l / 2 - 1 - g.inputs)).y.0
@@ -269,7 +269,7 @@ gate_gives g a bits m p s len holds h (inverse some odd is) =
     ∙ inverse_read g (record { 0 = l - 1 }) over in
     let reads = reads_one g a bits m p e s len holds h child in
     ap (λ (t : Gate). bit (exec (gate_instrs g a.cells z (taken g l) l t) m) z) is
-    ∙ load_gives g a.cells m z e fits (reads.apart (ap (taken_of g) is))
+    ∙ load_gives g.inputs a.cells m z e fits (reads.apart (ap (taken_of g) is))
     ∙ reads.value
 gate_gives g a bits m p s len holds h (input some even few is) =
     absurd (not_input g (get_or (gates g) p 0) (s.there p 0 h) (s.reached p 0 h) some even few)
@@ -291,7 +291,7 @@ gate_gives g a bits m p s len holds h (meet even above is) =
           open_gate
           ∙ ap (λ (o : Option ℕ). bit (exec (gate_instrs g a.cells z o l (gate.And x y)) m) z) none
           ∙ and_fresh g a.cells m z l x y holds.laws fits (rx.apart none) (ry.apart none)
-          ∙ ap (λ (b : Bool). b && lit_bit g a.cells m y) rx.value
+          ∙ ap (λ (b : Bool). b && lit_bit g.inputs a.cells m y) rx.value
           ∙ ap (λ (b : Bool). aval g bits x && b) ry.value
           ∙ sym value
       | inr some ↦
@@ -302,25 +302,25 @@ gate_gives g a bits m p s len holds h (meet even above is) =
           let old : bit m z ≡ aval g bits (record { 0 = c }) = ap (bit m) (s.allotted.taken p c h at) ∙ holds.held c before (kid_needed g p c h kid) in
           open_gate
           ∙ ap (λ (o : Option ℕ). bit (exec (gate_instrs g a.cells z o l (gate.And x y)) m) z) some.1
-          ∙ narrow_gives g a.cells m z (cond (eqb x.0 c) y x) fits
-          ∙ ap (λ (b : Bool). lit_bit g a.cells m (cond (eqb x.0 c) y x) && b) old
+          ∙ narrow_gives g.inputs a.cells m z (cond (eqb x.0 c) y x) fits
+          ∙ ap (λ (b : Bool). lit_bit g.inputs a.cells m (cond (eqb x.0 c) y x) && b) old
           ∙ elim (eqb_tells x.0 c) [
             | inl t ↦
-                ap (λ (b : Bool). lit_bit g a.cells m (cond b y x) && aval g bits (record { 0 = c })) t.0
+                ap (λ (b : Bool). lit_bit g.inputs a.cells m (cond b y x) && aval g bits (record { 0 = c })) t.0
                 ∙ ap (λ (b : Bool). b && aval g bits (record { 0 = c })) ry.value
                 ∙ ap (λ (k : ℕ). aval g bits y && aval g bits (record { 0 = k })) (sym t.1)
                 ∙ and_turns (aval g bits y) (aval g bits x)
                 ∙ sym value
             | inr f ↦
                 let second : c ≡ y.0 = second_one g l c (taken_over g l c some.1) (λ e. f.1 (sym e)) in
-                ap (λ (b : Bool). lit_bit g a.cells m (cond b y x) && aval g bits (record { 0 = c })) f.0
+                ap (λ (b : Bool). lit_bit g.inputs a.cells m (cond b y x) && aval g bits (record { 0 = c })) f.0
                 ∙ ap (λ (b : Bool). b && aval g bits (record { 0 = c })) rx.value
                 ∙ ap (λ (k : ℕ). aval g bits x && aval g bits (record { 0 = k })) second
                 ∙ sym value
           ]
     ]
 
-or_more : (x y r : Bool) → (y || r) ≡ true → ((x || y) || r) ≡ true
+pub or_more : (x y r : Bool) → (y || r) ≡ true → ((x || y) || r) ≡ true
 or_more true y r h = refl
 or_more false y r h = h
 
@@ -381,16 +381,16 @@ all_hold g a bits m s laws len wide is =
     let M : List ℕ → Type 0 = λ ys. Holds g a bits (length xs) (exec (flat_map (instrs_at g a.cells) ys) m) in
     subst M (take-length xs) (walk_holds g a bits m (length xs) s len (omega arith) (start_holds g a bits m laws wide is))
 
-has_front : (xs ys : List ℕ) (k : ℕ) → has xs k ≡ true → has (xs ++ ys) k ≡ true
+pub has_front : (xs ys : List ℕ) (k : ℕ) → has xs k ≡ true → has (xs ++ ys) k ≡ true
 has_front [] ys k h = absurd (false≢true h)
 has_front (x ∷ xs) ys k h = elim (bool_cases (eqb x k)) [
   | inl t ↦ ap (λ (b : Bool). b || has (xs ++ ys) k) t
   | inr f ↦ or_true (eqb x k) (has (xs ++ ys) k) (has_front xs ys k (sym (ap (λ (b : Bool). b || has xs k) f) ∙ h))
 ]
 
-root_keeps : (g : AigView) (os : List Lit) (roots : List ℕ) (y : ℕ) → has roots y ≡ true → has (fold (with_root g) roots os) y ≡ true
-root_keeps g [] roots y h = h
-root_keeps g (o ∷ os) roots y h = root_keeps g os (with_root g roots o) y (elim (bool_cases (is_input g o)) [
+root_keeps : (ins : ℕ) (os : List Lit) (roots : List ℕ) (y : ℕ) → has roots y ≡ true → has (fold (with_root ins) roots os) y ≡ true
+root_keeps ins [] roots y h = h
+root_keeps ins (o ∷ os) roots y h = root_keeps ins os (with_root ins roots o) y (elim (bool_cases (is_input ins o)) [
   | inl i ↦ ap (λ (b : Bool). has (cond b roots (cond (has roots o.0) roots (roots ++ o.0 ∷ []))) y) i ∙ h
   | inr j ↦ ap (λ (b : Bool). has (cond b roots (cond (has roots o.0) roots (roots ++ o.0 ∷ []))) y) j ∙ elim (bool_cases (has roots o.0)) [
     | inl u ↦ ap (λ (b : Bool). has (cond b roots (roots ++ o.0 ∷ [])) y) u ∙ h
@@ -398,25 +398,25 @@ root_keeps g (o ∷ os) roots y h = root_keeps g os (with_root g roots o) y (eli
   ]
 ])
 
-root_new : (g : AigView) (roots : List ℕ) (o : Lit) → is_input g o ≡ false → has (with_root g roots o) o.0 ≡ true
-root_new g roots o j = ap (λ (b : Bool). has (cond b roots (cond (has roots o.0) roots (roots ++ o.0 ∷ []))) o.0) j ∙ elim (bool_cases (has roots o.0)) [
+root_new : (ins : ℕ) (roots : List ℕ) (o : Lit) → is_input ins o ≡ false → has (with_root ins roots o) o.0 ≡ true
+root_new ins roots o j = ap (λ (b : Bool). has (cond b roots (cond (has roots o.0) roots (roots ++ o.0 ∷ []))) o.0) j ∙ elim (bool_cases (has roots o.0)) [
   | inl u ↦ ap (λ (b : Bool). has (cond b roots (roots ++ o.0 ∷ [])) o.0) u ∙ u
   | inr u ↦ ap (λ (b : Bool). has (cond b roots (roots ++ o.0 ∷ [])) o.0) u ∙ last roots o.0
 ]
 
 -- the gate of each output that is no input is a root
-pub roots_have : (g : AigView) (os : List Lit) (roots : List ℕ) (k : ℕ) (d : Lit) → k < length os → is_input g (get_or os k d) ≡ false → has (fold (with_root g) roots os) (get_or os k d).0 ≡ true
-roots_have g [] roots k d h j = absurd (omega arith)
-roots_have g (o ∷ os) roots zero d h j = root_keeps g os (with_root g roots o) o.0 (root_new g roots o j)
-roots_have g (o ∷ os) roots (suc k) d h j = roots_have g os (with_root g roots o) k d (omega arith) j
+pub roots_have : (ins : ℕ) (os : List Lit) (roots : List ℕ) (k : ℕ) (d : Lit) → k < length os → is_input ins (get_or os k d) ≡ false → has (fold (with_root ins) roots os) (get_or os k d).0 ≡ true
+roots_have ins [] roots k d h j = absurd (omega arith)
+roots_have ins (o ∷ os) roots zero d h j = root_keeps ins os (with_root ins roots o) o.0 (root_new ins roots o j)
+roots_have ins (o ∷ os) roots (suc k) d h j = roots_have ins os (with_root ins roots o) k d (omega arith) j
 
 le_same : (n : ℕ) → n ≤ n
 le_same n = omega arith
 
-pub record IsInput (g : AigView) (o : Lit) : Type 0 where
+pub record IsInput (ins : ℕ) (o : Lit) : Type 0 where
   pub even : o.0 % 2 ≡ 0
   pub some : 0 < o.0 / 2
-  pub few : o.0 / 2 ≤ g.inputs
+  pub few : o.0 / 2 ≤ ins
 
 both : (x y : Bool) → (x && y) ≡ true → (x ≡ true) × (y ≡ true)
 both true y h = (refl, h)
@@ -431,29 +431,29 @@ lt_is m n h = grind (arith, nat_tests)
 le_is : (m n : ℕ) → nat_le m n ≡ true → m ≤ n
 le_is m n h = grind (arith, nat_tests)
 
-pub input_means : (g : AigView) (o : Lit) → is_input g o ≡ true → IsInput g o
-input_means g o h =
-    let t = both (eqb (o.0 % 2) 0 && nat_lt 0 (o.0 / 2)) (nat_le (o.0 / 2) g.inputs) h in
+pub input_means : (ins : ℕ) (o : Lit) → is_input ins o ≡ true → IsInput ins o
+input_means ins o h =
+    let t = both (eqb (o.0 % 2) 0 && nat_lt 0 (o.0 / 2)) (nat_le (o.0 / 2) ins) h in
     let u = both (eqb (o.0 % 2) 0) (nat_lt 0 (o.0 / 2)) t.0 in
-    record { even = eq_is (o.0 % 2) 0 u.0; some = lt_is 0 (o.0 / 2) u.1; few = le_is (o.0 / 2) g.inputs t.1 }
+    record { even = eq_is (o.0 % 2) 0 u.0; some = lt_is 0 (o.0 / 2) u.1; few = le_is (o.0 / 2) ins t.1 }
 
 -- an output lies where the program says, with its value
-pub output_holds : (g : AigView) (a : AllotmentView) (bits m : List Bool) (k : ℕ) (d : Lit) → IsSettled g a → ExecLaws → ((y : ℕ) → IsReached (gate_graph g) y → has (gates g) y ≡ true) → length bits ≡ g.inputs → a.width ≤ length m → take g.inputs m ≡ bits → k < length g.outputs → bit (exec (schedule g a.cells) m) (output_cell g a.cells (get_or g.outputs k d)) ≡ aval g bits (get_or g.outputs k d)
+pub output_holds : (g : AigView) (a : AllotmentView) (bits m : List Bool) (k : ℕ) (d : Lit) → IsSettled g a → ExecLaws → ((y : ℕ) → IsReached (gate_graph g) y → has (gates g) y ≡ true) → length bits ≡ g.inputs → a.width ≤ length m → take g.inputs m ≡ bits → k < length g.outputs → bit (exec (schedule g a.cells) m) (output_cell g.inputs a.cells (get_or g.outputs k d)) ≡ aval g bits (get_or g.outputs k d)
 output_holds g a bits m k d s laws complete len wide is h =
     let o = get_or g.outputs k d in
     let xs = gates g in
     let v = gate_graph g in
     let end = all_hold g a bits m s laws len wide is in
     let r = exec (schedule g a.cells) m in
-    elim (bool_cases (is_input g o)) [
+    elim (bool_cases (is_input g.inputs o)) [
       | inl i ↦
-          let t = input_means g o i in
+          let t = input_means g.inputs o i in
           ap (λ (b : Bool). bit r (cond b (o.0 / 2 - 1) (get_or a.cells o.0 0))) i
           ∙ end.inputs (o.0 / 2 - 1) (omega (arith, t.some, t.few))
           ∙ sym (input_value g bits (o.0 / 2) s.values len t.some t.few)
           ∙ sym (plain_value g bits o.0 t.even)
       | inr j ↦
-          let root = roots_have g g.outputs [] k d h j in
+          let root = roots_have g.inputs g.outputs [] k d h j in
           let there = complete o.0 (as_root root) in
           let front : has (take (length xs) xs) o.0 ≡ true = ap (λ (ys : List ℕ). has ys o.0) (take-length xs) ∙ there in
           let need : needed v (drop (length xs) xs) o.0 ≡ true = ap (λ (ys : List ℕ). needed v ys o.0) (drop_of_length-le xs (le_same (length xs))) ∙ root in
@@ -462,11 +462,11 @@ output_holds g a bits m k d s laws complete len wide is h =
     ]
 
 -- an output lies in a cell of the program
-pub output_within : (g : AigView) (a : AllotmentView) (k : ℕ) (d : Lit) → IsSettled g a → ((y : ℕ) → IsReached (gate_graph g) y → has (gates g) y ≡ true) → k < length g.outputs → output_cell g a.cells (get_or g.outputs k d) < a.width
+pub output_within : (g : AigView) (a : AllotmentView) (k : ℕ) (d : Lit) → IsSettled g a → ((y : ℕ) → IsReached (gate_graph g) y → has (gates g) y ≡ true) → k < length g.outputs → output_cell g.inputs a.cells (get_or g.outputs k d) < a.width
 output_within g a k d s complete h =
     let o = get_or g.outputs k d in
     let P : Bool → Type 0 = λ b. cond {A = ℕ} b (o.0 / 2 - 1) (get_or a.cells o.0 0) < a.width in
-    elim (bool_cases (is_input g o)) [
-      | inl i ↦ let t = input_means g o i in subst P (sym i) (omega (arith, t.some, t.few, s.allotted.room))
-      | inr j ↦ subst P (sym j) (s.allotted.within o.0 (complete o.0 (as_root (roots_have g g.outputs [] k d h j))))
+    elim (bool_cases (is_input g.inputs o)) [
+      | inl i ↦ let t = input_means g.inputs o i in subst P (sym i) (omega (arith, t.some, t.few, s.allotted.room))
+      | inr j ↦ subst P (sym j) (s.allotted.within o.0 (complete o.0 (as_root (roots_have g.inputs g.outputs [] k d h j))))
     ]

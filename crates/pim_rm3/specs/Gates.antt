@@ -37,19 +37,19 @@ ands_read g (gate.Not m) = with_and g [] m
 ands_read g (gate.And x y) = with_and g (with_and g [] x) y
 
 -- the literal is the plain one of an input
-abbrev pub is_input : AigView → Lit → Bool
-is_input g o = o.0 % 2 == 0 && nat_lt 0 (o.0 / 2) && nat_le (o.0 / 2) g.inputs
+abbrev pub is_input : ℕ → Lit → Bool
+is_input inputs o = o.0 % 2 == 0 && nat_lt 0 (o.0 / 2) && nat_le (o.0 / 2) inputs
 
 -- the roots with the gate of one output more, each once; an input that is an output takes no gate
-abbrev pub with_root : AigView → List ℕ → Lit → List ℕ
-with_root g roots o =
-    if is_input g o then roots else (if has roots o.0 then roots else roots ++ o.0 ∷ [])
+abbrev pub with_root : ℕ → List ℕ → Lit → List ℕ
+with_root inputs roots o =
+    if is_input inputs o then roots else (if has roots o.0 then roots else roots ++ o.0 ∷ [])
 
 -- the graph of all literals as gates, with those of the outputs as its roots
 abbrev pub gate_graph : AigView → GraphView
 gate_graph g = record {
   kids = map (λ l. ands_read g (gate_of g l)) (range_with_len 0 (2 * nodes g));
-  roots = fold (with_root g) [] g.outputs;
+  roots = fold (with_root g.inputs) [] g.outputs;
 }
 
 -- the gates that the outputs reach, in the order in which they are computed

@@ -3,3 +3,7 @@ pub mod Gates
 pub mod Schedules
 pub mod Costs
 pub mod Refusals
+pub mod Roles
+pub mod Steps
+pub mod Temporaries
+pub mod SmartSchedules

@@ -2,6 +2,8 @@
 use Rattle.std.specs.Prelude.{◌≡◌, ℕ, ◌<◌, ◌≤◌}
 use Rattle.pim_rm3.specs.declared.refusal.Refusal.{Refusal}
 use Rattle.pim_rm3.specs.declared.refusal.Refusal.TheVariants.{TooFewCells, NoMemory}
+use Rattle.pim_rm3.specs.declared.refusal.SmartFault.{SmartFault}
+use Rattle.pim_rm3.specs.declared.refusal.SmartFault.TheVariants as fault
 
 -- a refusal for too few cells names the number that is needed, and comes only where the budget is below it
 abbrev pub IsRefusalFor : ℕ → ℕ → Refusal → Type 0
@@ -12,3 +14,8 @@ IsRefusalFor needed budget NoMemory = Unit {0}
 abbrev pub AsksAtMost : ℕ → Refusal → Type 0
 AsksAtMost most (TooFewCells told) = told ≤ most
 AsksAtMost most NoMemory = Unit {0}
+
+-- a schedule that does not fit has more cells than the budget, which it names, and no more than this number
+abbrev pub IsUnfitFor : ℕ → ℕ → SmartFault → Type 0
+IsUnfitFor most budget (fault.Unfit cells told) = (told ≡ budget) × (budget < cells) × (cells ≤ most)
+IsUnfitFor most budget fault.NoMemory = Unit {0}

@@ -1,2 +1,3 @@
 -- Inner: definitions that private functions cite, and no public contract.
 pub mod Reading
+pub mod Operands

@@ -19,10 +19,10 @@ pub(crate) fn literals(aig: &Aig) -> u32
 }
 
 /// Whether the literal is that of an input, which takes no gate.
-pub(crate) fn is_input(aig: &Aig, literal: Lit) -> bool
-    ensures { result ≡ is_input aig.now literal }
+pub(crate) fn is_input(inputs: u32, literal: Lit) -> bool
+    ensures { result ≡ is_input inputs literal }
 {
-    literal.0 % 2 == 0 && 0 < literal.0 / 2 && literal.0 / 2 <= aig.inputs()
+    literal.0 % 2 == 0 && 0 < literal.0 / 2 && literal.0 / 2 <= inputs
 }
 
 /// Puts the AND node of a literal at the end of a list, unless it is there already.
@@ -72,11 +72,11 @@ fn rootless(alloc: Global, aig: &Aig) -> Result<Graph, NoMemory>
 }
 
 /// Makes the gate of an output a root, unless the output is an input.
-fn put_root(graph: &mut Graph, aig: &Aig, output: Lit) -> Result<(), NoMemory>
+pub(crate) fn put_root(graph: &mut Graph, inputs: u32, output: Lit) -> Result<(), NoMemory>
     requires { output.0 < length graph.old.kids }
-    ensures { OnOk result (graph.new ≡ record graph.old { roots = with_root aig.now graph.old.roots output }) }
+    ensures { OnOk result (graph.new ≡ record graph.old { roots = with_root inputs graph.old.roots output }) }
 {
-    if is_input(aig, output) {
+    if is_input(inputs, output) {
         return Ok(());
     }
     graph.add_root(output.0)?;
@@ -90,7 +90,7 @@ pub(crate) fn gate_graph(alloc: Global, aig: &Aig) -> Result<Graph, NoMemory>
     let mut graph = rootless(alloc, aig)?;
     let outputs = aig.outputs();
     for output in outputs {
-        put_root(&mut graph, aig, *output)?;
+        put_root(&mut graph, aig.inputs(), *output)?;
     }
     Ok(graph)
 }

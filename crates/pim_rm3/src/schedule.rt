@@ -15,9 +15,10 @@ ghost use Rattle.pim_rm3.specs.Refusals.{AsksAtMost, IsRefusalFor};
 ghost use Rattle.pim_rm3.specs.Schedules.{program_of};
 
 use crate::Refusal;
-use crate::emit::{add_gates, add_inputs, add_outputs};
+use crate::emit::add_gates;
 use crate::gate_graph::gate_graph;
 use crate::over::all_taken;
+use crate::ports::{add_inputs, add_outputs};
 use pim_aig::Aig;
 use pim_graph::{Allotment, Graph, allot, order, peak};
 use pim_io::NoMemory;
@@ -144,7 +145,13 @@ fn drafted(alloc: Global, aig: &Aig, ports: &Ports, plan: &Plan) -> Result<Progr
     let cells = plan.allotment.cells();
     let mut draft = ProgramDraft::new(alloc, Target::Plim, plan.allotment.width());
     add_inputs(&mut draft, ports.inputs())?;
-    add_outputs(&mut draft, aig, cells, ports.outputs())?;
+    add_outputs(
+        &mut draft,
+        aig.inputs(),
+        cells,
+        aig.outputs(),
+        ports.outputs(),
+    )?;
     add_gates(&mut draft, aig, cells, &plan.over, &plan.order)?;
     Ok(draft)
 }

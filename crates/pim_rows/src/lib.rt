@@ -19,3 +19,5 @@ mod outside;
 mod programs;
 #[cfg(test)]
 mod run;
+#[cfg(test)]
+mod share;

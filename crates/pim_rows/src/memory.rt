@@ -4,6 +4,7 @@ use crate::case::{
     AND_NETLIST, AND_PROGRAM, BINARY_AND, Ending, FIVE, XOR, XOR_PROGRAM, call, gives, stops,
 };
 use crate::run::{repeated, run_on};
+use crate::share::{IN_TURNS, TWO_ANDS, behind_an_and, share};
 use pim_top::Status;
 use std::alloc::Global;
 use std::process::Abort;
@@ -49,4 +50,12 @@ fn of_vectors(rt: HostRuntime) -> Result<(), Fail> {
     let results = repeated(alloc, b"1\n", 4_097)?;
     let ending = run_on(alloc, "zeros", AND_PROGRAM, &vectors, 9_000)?;
     gives_or_wants_memory(&rt, alloc, &ending, &results)
+}
+
+#[test]
+fn of_programs_that_share_a_row(rt: HostRuntime) -> Result<(), Fail> {
+    let alloc = rt.alloc();
+    let programs = behind_an_and(alloc, AND_PROGRAM)?;
+    let ending = share(alloc, "10", &programs, IN_TURNS)?;
+    gives_or_wants_memory(&rt, alloc, &ending, TWO_ANDS)
 }

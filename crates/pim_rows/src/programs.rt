@@ -1,7 +1,8 @@
-//! `list`, `explain`, `asm` and `convert`: the AND in each of its spellings, faults with their notes, and sources and sinks that fail.
+//! `list`, `explain`, `asm` and `convert`: the AND in each of its spellings, trees, faults with their notes, and sources and sinks that fail.
 mod faults;
 mod outside;
 mod spellings;
+mod tree;
 
 use crate::case::{Ending, call_over};
 use pim_io::{MemSink, SliceSource, Source};

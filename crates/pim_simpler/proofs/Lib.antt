@@ -12,6 +12,7 @@ pub mod Stages
 pub mod GateCounts
 pub mod Peaks
 pub mod Counts
+pub mod Cycles
 pub mod Scheduled
 pub mod Places
 pub mod Realized

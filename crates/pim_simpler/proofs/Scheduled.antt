@@ -20,6 +20,7 @@ use Rattle.pim_isa.specs.Primed.{IsPrimed, is_init, last_write_is_init}
 use Rattle.pim_isa.specs.Programs.{ProgramView, PortsView}
 use Rattle.pim_isa.specs.Realizes.{Realizes}
 use Rattle.pim_isa.specs.Sound.{IsSound, IsValid, cells_of}
+use Rattle.pim_isa.specs.Writes.{nor_places}
 use Rattle.pim_nor.specs.GateGraphs.{graph_of, gates_read}
 use Rattle.pim_nor.specs.Laws.{HasGateValues}
 use Rattle.pim_nor.specs.Network.{NorView, IsNetwork, nor_count, IsOfFirst, AreOfFirst}
@@ -33,6 +34,7 @@ use Rattle.pim_simpler.specs.inner.Runs.{Plan, Drafted}
 use Rattle.pim_simpler.specs.inner.Slots.{Slot, held, is_outside, start, Works}
 use Rattle.pim_simpler.proofs.Batches.{Keeping, Good, GoodInit, GoodNor, good-run}
 use Rattle.pim_simpler.proofs.Counts.{nors_counted}
+use Rattle.pim_simpler.proofs.Cycles.{quick}
 use Rattle.pim_simpler.proofs.Stages.{All-among}
 use Rattle.pim_simpler.proofs.Followed.{SoFar, SoFar-run, SoFar-start, AllStand-from}
 use Rattle.pim_simpler.proofs.Inits.{one_init}
@@ -215,6 +217,11 @@ module _ (n : NorView) (ports : PortsView) (order : List ℕ) (end : ℕ) (p : P
 
   pub one_init_draft : n.inputs + length order ≤ end → count_by is_init p.instrs ≤ 1
   one_init_draft enough = one_init d.run n.inputs end (λ c. refl) enough
+
+  pub quick_draft : (nors : ℕ) → length (nor_places p.instrs) ≡ nors → n.inputs + length order ≤ end → length p.instrs ≤ nors + 1
+  quick_draft nors few enough =
+      let V : Target → Type 0 = λ t. All (IsValid t p.cells) p.instrs in
+      quick p.cells nors p.instrs (subst V d.target sound_draft.instrs) few (one_init_draft enough)
 
   pub realizes_draft : ExecLaws → WriteLaws → HasGateValues n → Realizes p ports.inputs (out_values n)
   realizes_draft exec_laws write_laws values =

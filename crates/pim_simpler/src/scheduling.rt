@@ -45,11 +45,14 @@ pub fn schedule(alloc: Global, net: &NorNet, ports: &Ports, budget: u32) -> Resu
     ensures nors { IfOk result (λ program. length (nor_places program.instrs) ≡ nor_count net.now.gates) }
     ensures one_init { IfOk result
         (λ program. net.now.inputs + length net.now.gates ≤ budget → count_by is_init program.instrs ≤ 1) }
+    ensures quick { IfOk result
+        (λ program. net.now.inputs + length net.now.gates ≤ budget → length program.instrs ≤ nor_count net.now.gates + 1) }
 
     // Too few cells are exactly those below the need.
     ensures accepted { OnOk result (needed_of net.now ≤ budget) }
     ensures refused { IfErr result (IsRefusalFor (needed_of net.now) budget) }
     ensures most { IfErr result (AsksAtMost (net.now.inputs + nor_count net.now.gates + 1)) }
+    ensures roomy { IfErr result (AsksAtMost (net.now.inputs + length net.now.gates)) }
 {
     let graph = net.graph();
     let gates = order(alloc, graph)?;

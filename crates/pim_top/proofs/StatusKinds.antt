@@ -12,12 +12,17 @@ use Rattle.pim_debug.specs.declared.fault.DebugFault.{DebugFault}
 use Rattle.pim_debug.specs.declared.fault.DebugFault.TheVariants as debug
 use Rattle.pim_file.specs.declared.fault.FileFault.{FileFault}
 use Rattle.pim_file.specs.declared.fault.FileFault.TheVariants as file
+use Rattle.pim_life.specs.declared.tree_fault.TreeFault.{TreeFault}
+use Rattle.pim_life.specs.declared.tree_fault.TreeFault.TheVariants as tree
 use Rattle.pim_net.specs.declared.fault.NetFault.{NetFault}
 use Rattle.pim_net.specs.declared.fault.NetFault.TheVariants as net
-use Rattle.pim_top.specs.Statuses.{aiger_status, asm_status, blif_status, compiler_status, file_status, judgement_status, net_status, netlist_status, prove_status, refusal_status}
 use Rattle.pim_prove.specs.declared.fault.ProveFault.{ProveFault}
 use Rattle.pim_prove.specs.declared.fault.ProveFault.TheVariants as prove
-use Rattle.pim_top.specs.Statuses.{aiger_status, asm_status, blif_status, compiler_status, debug_status, file_status, judgement_status, net_status, netlist_status, refusal_status}
+use Rattle.pim_share.specs.declared.fault.ManyFault.{ManyFault}
+use Rattle.pim_share.specs.declared.fault.ManyFault.TheVariants as many
+use Rattle.pim_share.specs.declared.fault.ShareFault.{ShareFault}
+use Rattle.pim_share.specs.declared.fault.ShareFault.TheVariants as share
+use Rattle.pim_top.specs.Statuses.{aiger_status, asm_status, blif_status, compiler_status, debug_status, file_status, judgement_status, many_status, net_status, netlist_status, prove_status, refusal_status, share_status, tree_status}
 use Rattle.pim_top.specs.declared.judgement.Judgement.{Judgement}
 use Rattle.pim_top.specs.declared.judgement.Judgement.TheVariants as judgement
 use Rattle.pim_top.specs.declared.netlist.NetlistFault.{NetlistFault}
@@ -76,6 +81,21 @@ prove-kind prove.Nodes = tt
 prove-kind (prove.NotClean unset) = tt
 prove-kind prove.NoMemory = tt
 
+tree-kind : (f : TreeFault) → IsOfBytes (tree_status f)
+tree-kind tree.NotMagic = tt
+tree-kind tree.NoMemory = tt
+
+many-kind : (f : ManyFault) → IsOfBytes (many_status f)
+many-kind (many.Part part f) = file-kind f
+many-kind many.NoMemory = tt
+
+share-kind : (f : ShareFault) → IsOfBytes (share_status f)
+share-kind (share.OtherTarget part) = tt
+share-kind (share.TooFewCells needed) = tt
+share-kind (share.Turn turn) = tt
+share-kind (share.Missing part) = tt
+share-kind share.NoMemory = tt
+
 debug-kind : (f : DebugFault) → IsOfBytes (debug_status f)
 debug-kind debug.NoMemory = tt
 debug-kind f = tt
@@ -87,6 +107,10 @@ judgement-kind (judgement.File f) = file-kind f
 judgement-kind (judgement.Assembly f) = asm-kind f
 judgement-kind (judgement.Prove f) = prove-kind f
 judgement-kind (judgement.Unequal vector output) = tt
+judgement-kind (judgement.Tree f) = tree-kind f
+judgement-kind (judgement.Parts f) = many-kind f
+judgement-kind (judgement.Turn n) = tt
+judgement-kind (judgement.Share f) = share-kind f
 judgement-kind (judgement.Vector n) = tt
 judgement-kind (judgement.Command n f) = debug-kind f
 judgement-kind judgement.TooManyLines = tt

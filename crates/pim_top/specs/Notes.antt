@@ -1,5 +1,5 @@
 -- The line that each answer writes to the notes.
-use Rattle.std.specs.Prelude.{ℕ, List, [], ◌∷◌, ◌++◌, Result, Ok, Err, codes, decimal}
+use Rattle.std.specs.Prelude.{ℕ, ◌+◌, List, [], ◌∷◌, ◌++◌, Option, None, Some, Result, Ok, Err, codes, decimal}
 use Rattle.pim_aiger.specs.declared.fault.AigerFault.{AigerFault}
 use Rattle.pim_aiger.specs.declared.fault.AigerFault.TheVariants as aiger
 use Rattle.pim_asm.specs.declared.fault.AsmFault.{AsmFault}
@@ -14,6 +14,8 @@ use Rattle.pim_file.specs.declared.fault.FileFault.{FileFault}
 use Rattle.pim_file.specs.declared.fault.FileFault.TheVariants as file
 use Rattle.pim_isa.specs.declared.invalid.Invalid.{Invalid}
 use Rattle.pim_isa.specs.declared.invalid.Invalid.TheVariants as invalid
+use Rattle.pim_life.specs.declared.tree_fault.TreeFault.{TreeFault}
+use Rattle.pim_life.specs.declared.tree_fault.TreeFault.TheVariants as tree
 use Rattle.pim_net.specs.declared.fault.NetFault.{NetFault}
 use Rattle.pim_net.specs.declared.fault.NetFault.TheVariants as net
 use Rattle.pim_net.specs.declared.kind.Kind.{Kind}
@@ -22,6 +24,10 @@ use Rattle.pim_prove.specs.declared.fault.ProveFault.{ProveFault}
 use Rattle.pim_prove.specs.declared.fault.ProveFault.TheVariants as prove
 use Rattle.pim_prove.specs.declared.unset.Unset.{Unset}
 use Rattle.pim_prove.specs.declared.unset.Unset.TheVariants as unset
+use Rattle.pim_share.specs.declared.fault.ManyFault.{ManyFault}
+use Rattle.pim_share.specs.declared.fault.ManyFault.TheVariants as many
+use Rattle.pim_share.specs.declared.fault.ShareFault.{ShareFault}
+use Rattle.pim_share.specs.declared.fault.ShareFault.TheVariants as share
 use Rattle.pim_top.specs.declared.judgement.Judgement.{Judgement}
 use Rattle.pim_top.specs.declared.judgement.Judgement.TheVariants as judgement
 use Rattle.pim_top.specs.declared.netlist.NetlistFault.{NetlistFault}
@@ -100,37 +106,46 @@ compiler_text (compiler.TooFewCells needed) = codes "too few cells: needed " ++ 
 compiler_text compiler.TooLarge = large (codes "nodes")
 compiler_text compiler.NoMemory = wanting
 
+-- the words before a fault of one part of a file, and none where the file is one program
+abbrev pub part_words : Option ℕ → List ℕ
+part_words None = []
+part_words (Some part) = codes "part " ++ (decimal part ++ codes " ")
+
+-- a fault of a program file, or of a part of one, with a number
+abbrev pub placed : Option ℕ → List ℕ → ℕ → List ℕ → List ℕ
+placed part text number rest = bad (part_words part ++ (text ++ (decimal number ++ rest)))
+
 -- what is wrong with an instruction
-abbrev pub instruction_text : ℕ → List ℕ → List ℕ
-instruction_text k text = bad (codes "program instruction " ++ (decimal k ++ text))
+abbrev pub instruction_text : Option ℕ → ℕ → List ℕ → List ℕ
+instruction_text part k text = placed part (codes "program instruction ") k text
 
 -- why a program is not valid
-abbrev pub invalid_text : Invalid → List ℕ
-invalid_text (invalid.CellRange k) = instruction_text k (codes " cell range")
-invalid_text (invalid.TargetRead k) = instruction_text k (codes " reads its target")
-invalid_text (invalid.WrongTarget k) = instruction_text k (codes " wrong target")
-invalid_text (invalid.InitList k) = instruction_text k (codes " init list")
-invalid_text (invalid.Port k) = bad (codes "program port " ++ decimal k)
+abbrev pub invalid_text : Option ℕ → Invalid → List ℕ
+invalid_text part (invalid.CellRange k) = instruction_text part k (codes " cell range")
+invalid_text part (invalid.TargetRead k) = instruction_text part k (codes " reads its target")
+invalid_text part (invalid.WrongTarget k) = instruction_text part k (codes " wrong target")
+invalid_text part (invalid.InitList k) = instruction_text part k (codes " init list")
+invalid_text part (invalid.Port k) = placed part (codes "program port ") k []
 
--- why bytes are no program file
-abbrev pub file_text : FileFault → List ℕ
-file_text (file.Line n) = bad (codes "program line " ++ decimal n)
-file_text (file.Invalid fault) = invalid_text fault
-file_text (file.Byte place) = bad (codes "program byte " ++ decimal place)
-file_text file.Truncated = bad (codes "program truncated")
-file_text file.TooLarge = large (codes "cells")
-file_text file.NoMemory = wanting
+-- why bytes are no program file, or no part of one
+abbrev pub file_text : Option ℕ → FileFault → List ℕ
+file_text part (file.Line n) = placed part (codes "program line ") n []
+file_text part (file.Invalid fault) = invalid_text part fault
+file_text part (file.Byte place) = placed part (codes "program byte ") place []
+file_text part file.Truncated = bad (part_words part ++ codes "program truncated")
+file_text part file.TooLarge = large (codes "cells")
+file_text part file.NoMemory = wanting
 
 -- why bytes are no assembly
 abbrev pub asm_text : AsmFault → List ℕ
 asm_text (asm.Line n) = bad (codes "assembly line " ++ decimal n)
 asm_text (asm.Name n) = bad (codes "assembly name in line " ++ decimal n)
-asm_text (asm.Invalid fault) = invalid_text fault
+asm_text (asm.Invalid fault) = invalid_text None fault
 asm_text asm.NoMemory = wanting
 
 -- which cell a program uses unset
 abbrev pub unset_text : Unset → List ℕ
-unset_text (unset.Used k cell) = instruction_text k (codes " uses unset cell " ++ decimal cell)
+unset_text (unset.Used k cell) = instruction_text None k (codes " uses unset cell " ++ decimal cell)
 unset_text (unset.Output k) = bad (codes "program output " ++ (decimal k ++ codes " is unset"))
 
 -- why a program is not compared with a netlist
@@ -144,6 +159,28 @@ prove_text prove.NoMemory = wanting
 -- at which vector and output a program differs from a netlist
 abbrev pub unequal_text : List ℕ → ℕ → List ℕ
 unequal_text vector output = codes "unequal " ++ (vector ++ (codes " output " ++ decimal output))
+
+-- why a program's NORs are not explained as a graph
+abbrev pub tree_text : TreeFault → List ℕ
+tree_text tree.NotMagic = bad (codes "program is not magic")
+tree_text tree.NoMemory = wanting
+
+-- why bytes are no program files one after another
+abbrev pub many_text : ManyFault → List ℕ
+many_text (many.Part part fault) = file_text (Some part) fault
+many_text many.NoMemory = wanting
+
+-- that the turn in a line is wrong
+abbrev pub turn_text : ℕ → List ℕ
+turn_text line = bad (codes "turn line " ++ decimal line)
+
+-- why programs don't share a row; a turn has a line for itself, and the first line has the number 1
+abbrev pub share_text : ShareFault → List ℕ
+share_text (share.OtherTarget part) = bad (codes "part " ++ (decimal part ++ codes " other target"))
+share_text (share.TooFewCells needed) = codes "too few cells: needed " ++ decimal needed
+share_text (share.Turn turn) = turn_text (turn + 1)
+share_text (share.Missing part) = bad (codes "turns missing part " ++ decimal part)
+share_text share.NoMemory = wanting
 
 -- that the command in a line is wrong, and how
 abbrev pub debug_line : ℕ → List ℕ → List ℕ → List ℕ
@@ -161,10 +198,14 @@ debug_text line debug.NoMemory = wanting
 abbrev pub judgement_text : Judgement → List ℕ
 judgement_text (judgement.Netlist fault) = netlist_text fault
 judgement_text (judgement.Compile refusal) = compiler_text refusal
-judgement_text (judgement.File fault) = file_text fault
+judgement_text (judgement.File fault) = file_text None fault
 judgement_text (judgement.Assembly fault) = asm_text fault
 judgement_text (judgement.Prove fault) = prove_text fault
 judgement_text (judgement.Unequal vector output) = unequal_text vector output
+judgement_text (judgement.Tree fault) = tree_text fault
+judgement_text (judgement.Parts fault) = many_text fault
+judgement_text (judgement.Turn n) = turn_text n
+judgement_text (judgement.Share fault) = share_text fault
 judgement_text (judgement.Vector n) = bad (codes "vector line " ++ decimal n)
 judgement_text (judgement.Command n fault) = debug_text n fault
 judgement_text judgement.TooManyLines = large (codes "rows")

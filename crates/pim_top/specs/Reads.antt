@@ -2,7 +2,7 @@
 use Rattle.std.specs.Prelude.{◌≡◌, ◌≤◌, ◌<◌, ℕ, Bool, true, false, List, [], Option, None, Some, length}
 use Rattle.pim_io.specs.Outside.{Told}
 use Rattle.pim_words.specs.declared.command.Command.{Command}
-use Rattle.pim_words.specs.declared.command.Command.TheVariants.{Asm, Compile, Convert, Debug, Explain, List as Listed, Prove, Run}
+use Rattle.pim_words.specs.declared.command.Command.TheVariants.{Asm, Bench, Compile, Convert, Debug, Explain, Imply, Implyrun, List as Listed, Prove, Run, Share}
 use Rattle.pim_top.specs.Streams.{IsRead, IsUntouched, Seen, Stream}
 use Rattle.pim_io.specs.declared.limits.TheConstants.{MAX_INPUT, MAX_PROGRAM}
 use Rattle.pim_top.specs.declared.refusal.Origin.{Origin}
@@ -16,8 +16,8 @@ reads (Run fill) Program = Some MAX_PROGRAM
 reads (Run fill) Input = Some MAX_INPUT
 reads Listed Program = Some MAX_PROGRAM
 reads Listed Input = None
-reads Explain Program = Some MAX_PROGRAM
-reads Explain Input = None
+reads (Explain tree) Program = Some MAX_PROGRAM
+reads (Explain tree) Input = None
 reads Prove Program = Some MAX_PROGRAM
 reads Prove Input = Some MAX_INPUT
 reads Asm Program = None
@@ -26,6 +26,14 @@ reads (Debug fill) Program = Some MAX_PROGRAM
 reads (Debug fill) Input = Some MAX_INPUT
 reads (Convert form) Program = None
 reads (Convert form) Input = Some MAX_PROGRAM
+reads (Imply cells) Program = None
+reads (Imply cells) Input = Some MAX_INPUT
+reads (Implyrun fill) Program = Some MAX_PROGRAM
+reads (Implyrun fill) Input = Some MAX_INPUT
+reads (Share cells) Program = Some MAX_PROGRAM
+reads (Share cells) Input = Some MAX_INPUT
+reads (Bench bits) Program = None
+reads (Bench bits) Input = None
 
 -- the command writes to the output while it reads the input
 abbrev pub streams : Command → Bool

@@ -12,10 +12,16 @@ use Rattle.pim_debug.specs.declared.fault.DebugFault.{DebugFault}
 use Rattle.pim_debug.specs.declared.fault.DebugFault.TheVariants as debug
 use Rattle.pim_file.specs.declared.fault.FileFault.{FileFault}
 use Rattle.pim_file.specs.declared.fault.FileFault.TheVariants as file
+use Rattle.pim_life.specs.declared.tree_fault.TreeFault.{TreeFault}
+use Rattle.pim_life.specs.declared.tree_fault.TreeFault.TheVariants as tree
 use Rattle.pim_net.specs.declared.fault.NetFault.{NetFault}
 use Rattle.pim_net.specs.declared.fault.NetFault.TheVariants as net
 use Rattle.pim_prove.specs.declared.fault.ProveFault.{ProveFault}
 use Rattle.pim_prove.specs.declared.fault.ProveFault.TheVariants as prove
+use Rattle.pim_share.specs.declared.fault.ManyFault.{ManyFault}
+use Rattle.pim_share.specs.declared.fault.ManyFault.TheVariants as many
+use Rattle.pim_share.specs.declared.fault.ShareFault.{ShareFault}
+use Rattle.pim_share.specs.declared.fault.ShareFault.TheVariants as share
 use Rattle.pim_top.specs.declared.judgement.Judgement.{Judgement}
 use Rattle.pim_top.specs.declared.judgement.Judgement.TheVariants as judgement
 use Rattle.pim_top.specs.declared.netlist.NetlistFault.{NetlistFault}
@@ -86,6 +92,24 @@ prove_status prove.Nodes = status.TooLarge
 prove_status (prove.NotClean unset) = status.BadInput
 prove_status prove.NoMemory = status.NoMemory
 
+-- a program that is not for MAGIC is a bad input
+abbrev pub tree_status : TreeFault → Status
+tree_status tree.NotMagic = status.BadInput
+tree_status tree.NoMemory = status.NoMemory
+
+-- a piece of a file that is no program has the status of its fault
+abbrev pub many_status : ManyFault → Status
+many_status (many.Part part fault) = file_status fault
+many_status many.NoMemory = status.NoMemory
+
+-- programs that don't share a row are a bad input, but too few cells have a status of their own
+abbrev pub share_status : ShareFault → Status
+share_status (share.OtherTarget part) = status.BadInput
+share_status (share.TooFewCells needed) = status.TooFewCells
+share_status (share.Turn turn) = status.BadInput
+share_status (share.Missing part) = status.BadInput
+share_status share.NoMemory = status.NoMemory
+
 -- a command that is refused is a bad input
 abbrev pub debug_status : DebugFault → Status
 debug_status debug.NoMemory = status.NoMemory
@@ -99,6 +123,10 @@ judgement_status (judgement.File fault) = file_status fault
 judgement_status (judgement.Assembly fault) = asm_status fault
 judgement_status (judgement.Prove fault) = prove_status fault
 judgement_status (judgement.Unequal vector output) = status.Unequal
+judgement_status (judgement.Tree fault) = tree_status fault
+judgement_status (judgement.Parts fault) = many_status fault
+judgement_status (judgement.Turn n) = status.BadInput
+judgement_status (judgement.Share fault) = share_status fault
 judgement_status (judgement.Vector n) = status.BadInput
 judgement_status (judgement.Command n fault) = debug_status fault
 judgement_status judgement.TooManyLines = status.TooLarge

@@ -6,3 +6,4 @@ pub mod Explain
 pub mod List
 pub mod Prove
 pub mod Run
+pub mod Share

@@ -1,6 +1,6 @@
 //! Why bytes are refused, by what they say alone.
 ghost use Rattle.std.specs.Prelude.{◌≡◌};
-ghost use Rattle.pim_top.specs.Statuses.{aiger_status, asm_status, blif_status, compiler_status, debug_status, file_status, judgement_status, net_status, netlist_status, prove_status};
+ghost use Rattle.pim_top.specs.Statuses.{aiger_status, asm_status, blif_status, compiler_status, debug_status, file_status, judgement_status, many_status, net_status, netlist_status, prove_status, share_status, tree_status};
 ghost use Rattle.pim_top.specs.declared.judgement.Judgement.TheVariants as judgements;
 
 use crate::Status;
@@ -12,8 +12,10 @@ use pim_blif::BlifFault;
 use pim_debug::DebugFault;
 use pim_file::FileFault;
 use pim_io::NoMemory;
+use pim_life::TreeFault;
 use pim_net::NetFault;
 use pim_prove::ProveFault;
+use pim_share::{ManyFault, ShareFault};
 
 /// Why bytes are refused: the fault of the layer that refused them, as it is, and nothing of the outside.
 #[derive(Debug, Drop)]
@@ -30,6 +32,14 @@ pub enum Judgement {
     Prove(ProveFault),
     /// At this vector, the least, the program's outputs aren't the netlist's, and this is the first output that differs.
     Unequal { vector: VectorText, output: u32 },
+    /// The program's NORs are not explained as a graph.
+    Tree(TreeFault),
+    /// The bytes are no program files one after another.
+    Parts(ManyFault),
+    /// The line of this number, from 1, is no number of a turn.
+    Turn(u32),
+    /// The programs don't share a row in these turns.
+    Share(ShareFault),
     /// The line of this number, from 1, is no vector of the program's inputs.
     Vector(u32),
     /// The command in the line of this number, from 1, is refused.
@@ -60,6 +70,10 @@ impl Judgement {
             Judgement::Assembly(fault) => asm_status(*fault),
             Judgement::Prove(fault) => prove_status(*fault),
             Judgement::Unequal { .. } => Status::Unequal,
+            Judgement::Tree(fault) => tree_status(*fault),
+            Judgement::Parts(fault) => many_status(*fault),
+            Judgement::Turn(_) => Status::BadInput,
+            Judgement::Share(fault) => share_status(*fault),
             Judgement::Vector(_) => Status::BadInput,
             Judgement::Command(_, fault) => debug_status(*fault),
             Judgement::TooManyLines => Status::TooLarge,
@@ -152,6 +166,39 @@ fn prove_status(fault: ProveFault) -> Status
         ProveFault::Ports | ProveFault::NotClean(_) => Status::BadInput,
         ProveFault::Inputs | ProveFault::Nodes => Status::TooLarge,
         ProveFault::NoMemory => Status::NoMemory,
+    }
+}
+
+/// The status of a program that is no graph of NORs.
+fn tree_status(fault: TreeFault) -> Status
+    ensures { result ≡ tree_status fault }
+{
+    match fault {
+        TreeFault::NotMagic => Status::BadInput,
+        TreeFault::NoMemory => Status::NoMemory,
+    }
+}
+
+/// The status of a piece of a file that is no program.
+fn many_status(fault: ManyFault) -> Status
+    ensures { result ≡ many_status fault }
+{
+    match fault {
+        ManyFault::Part { fault, .. } => file_status(fault),
+        ManyFault::NoMemory => Status::NoMemory,
+    }
+}
+
+/// The status of programs that don't share a row.
+fn share_status(fault: ShareFault) -> Status
+    ensures { result ≡ share_status fault }
+{
+    match fault {
+        ShareFault::OtherTarget(_) | ShareFault::Turn(_) | ShareFault::Missing(_) => {
+            Status::BadInput
+        }
+        ShareFault::TooFewCells { .. } => Status::TooFewCells,
+        ShareFault::NoMemory => Status::NoMemory,
     }
 }
 

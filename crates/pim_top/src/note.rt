@@ -1,8 +1,8 @@
 //! The one line that a refusal writes to the notes.
-ghost use Rattle.std.specs.Prelude.{◌≡◌, ◌++◌, OnOk, decimal};
+ghost use Rattle.std.specs.Prelude.{◌≡◌, ◌++◌, OnOk, codes, decimal};
 ghost use Rattle.pim_io.specs.Outside.{Wrote};
 ghost use Rattle.pim_top.specs.Calls.{IsNoted};
-ghost use Rattle.pim_top.specs.Notes.{aiger_text, asm_text, bad, blif_line, blif_text, compiler_text, debug_line, debug_text, file_text, instruction_text, invalid_text, judgement_text, kind_word, large, net_text, note, origin_word, prove_text, refusal_text, spaced, unequal_text, unset_text};
+ghost use Rattle.pim_top.specs.Notes.{aiger_text, asm_text, bad, blif_line, blif_text, compiler_text, debug_line, debug_text, file_text, instruction_text, invalid_text, judgement_text, kind_word, large, many_text, net_text, note, origin_word, part_words, placed, prove_text, refusal_text, share_text, spaced, tree_text, turn_text, unequal_text, unset_text};
 ghost use Rattle.pim_top.specs.Streams.{stream};
 ghost use Rattle.pim_top.specs.inner.Writing.{WroteLine};
 
@@ -18,8 +18,10 @@ use pim_debug::DebugFault;
 use pim_file::FileFault;
 use pim_io::{Sink, SinkFault, tell_writes, write_all, write_pieces};
 use pim_isa::Invalid;
+use pim_life::TreeFault;
 use pim_net::{Kind, Names, NetFault};
 use pim_prove::{ProveFault, Unset};
+use pim_share::{ManyFault, ShareFault};
 
 /// Writes the note of an answer, as far as the sink takes it: none where all was done.
 pub fn tell<E: Sink>(answer: &Result<(), Refusal>, notes: &mut E)
@@ -54,10 +56,14 @@ fn write_judgement<E: Sink>(notes: &mut E, judgement: &Judgement) -> Result<(), 
         Judgement::Netlist(NetlistFault::Aiger(fault)) => write_aiger(notes, fault),
         Judgement::Netlist(NetlistFault::Blif(fault)) => write_blif(notes, fault),
         Judgement::Compile(refusal) => write_compiler(notes, *refusal),
-        Judgement::File(fault) => write_file(notes, *fault),
+        Judgement::File(fault) => write_file(notes, None, *fault),
         Judgement::Assembly(fault) => write_assembly(notes, *fault),
         Judgement::Prove(fault) => write_prove(notes, *fault),
         Judgement::Unequal { vector, output } => write_unequal(notes, vector, *output),
+        Judgement::Tree(fault) => write_tree(notes, *fault),
+        Judgement::Parts(fault) => write_many(notes, *fault),
+        Judgement::Turn(line) => write_turn(notes, *line as u64),
+        Judgement::Share(fault) => write_share(notes, *fault),
         Judgement::Vector(line) => write_bad_number(notes, b"vector line ", *line),
         Judgement::Command(line, fault) => write_command(notes, *line, *fault),
         Judgement::TooManyLines => write_large(notes, b"rows"),
@@ -196,15 +202,15 @@ fn write_net<E: Sink>(notes: &mut E, fault: &NetFault, labels: &Names) -> Result
     }
 }
 
-/// Writes the fault of a program file with its line, or that of its program.
-fn write_file<E: Sink>(notes: &mut E, fault: FileFault) -> Result<(), SinkFault>
-    ensures { WroteLine E.taken E.faults notes.old notes.new (file_text fault) result }
+/// Writes the fault of a program file, or of a part of one, with its line, or that of its program.
+fn write_file<E: Sink>(notes: &mut E, part: Option<u32>, fault: FileFault) -> Result<(), SinkFault>
+    ensures { WroteLine E.taken E.faults notes.old notes.new (file_text part fault) result }
 {
     match fault {
-        FileFault::Line(line) => write_bad_number(notes, b"program line ", line),
-        FileFault::Invalid(fault) => write_invalid(notes, fault),
-        FileFault::Byte(place) => write_bad_number(notes, b"program byte ", place),
-        FileFault::Truncated => write_bad(notes, b"program truncated"),
+        FileFault::Line(line) => write_placed(notes, part, b"program line ", line, b""),
+        FileFault::Invalid(fault) => write_invalid(notes, part, fault),
+        FileFault::Byte(place) => write_placed(notes, part, b"program byte ", place, b""),
+        FileFault::Truncated => write_part(notes, part, b"program truncated"),
         FileFault::TooLarge => write_large(notes, b"cells"),
         FileFault::NoMemory => write_text(notes, b"no memory"),
     }
@@ -217,7 +223,7 @@ fn write_assembly<E: Sink>(notes: &mut E, fault: AsmFault) -> Result<(), SinkFau
     match fault {
         AsmFault::Line(line) => write_bad_number(notes, b"assembly line ", line),
         AsmFault::Name(line) => write_bad_number(notes, b"assembly name in line ", line),
-        AsmFault::Invalid(fault) => write_invalid(notes, fault),
+        AsmFault::Invalid(fault) => write_invalid(notes, None, fault),
         AsmFault::NoMemory => write_text(notes, b"no memory"),
     }
 }
@@ -284,33 +290,124 @@ fn write_unequal<E: Sink>(notes: &mut E, vector: &VectorText, output: u32) -> Re
     write_pieces(notes, &pieces)
 }
 
-/// Writes why a program is not valid, with the instruction or the port.
-fn write_invalid<E: Sink>(notes: &mut E, fault: Invalid) -> Result<(), SinkFault>
-    ensures { WroteLine E.taken E.faults notes.old notes.new (invalid_text fault) result }
+/// Writes why a program's NORs are not explained as a graph.
+fn write_tree<E: Sink>(notes: &mut E, fault: TreeFault) -> Result<(), SinkFault>
+    ensures { WroteLine E.taken E.faults notes.old notes.new (tree_text fault) result }
 {
     match fault {
-        Invalid::CellRange(k) => write_instruction(notes, k, b" cell range"),
-        Invalid::TargetRead(k) => write_instruction(notes, k, b" reads its target"),
-        Invalid::WrongTarget(k) => write_instruction(notes, k, b" wrong target"),
-        Invalid::InitList(k) => write_instruction(notes, k, b" init list"),
-        Invalid::Port(k) => write_bad_number(notes, b"program port ", k),
+        TreeFault::NotMagic => write_bad(notes, b"program is not magic"),
+        TreeFault::NoMemory => write_text(notes, b"no memory"),
+    }
+}
+
+/// Writes the fault of a part of a file.
+fn write_many<E: Sink>(notes: &mut E, fault: ManyFault) -> Result<(), SinkFault>
+    ensures { WroteLine E.taken E.faults notes.old notes.new (many_text fault) result }
+{
+    match fault {
+        ManyFault::Part { part, fault } => write_file(notes, Some(part), fault),
+        ManyFault::NoMemory => write_text(notes, b"no memory"),
+    }
+}
+
+/// Writes why programs don't share a row.
+fn write_share<E: Sink>(notes: &mut E, fault: ShareFault) -> Result<(), SinkFault>
+    ensures { WroteLine E.taken E.faults notes.old notes.new (share_text fault) result }
+{
+    match fault {
+        ShareFault::OtherTarget(part) => write_part(notes, Some(part), b"other target"),
+        ShareFault::TooFewCells { needed } => write_needed(notes, needed),
+        ShareFault::Turn(turn) => write_turn(notes, turn as u64 + 1),
+        ShareFault::Missing(part) => write_bad_number(notes, b"turns missing part ", part),
+        ShareFault::NoMemory => write_text(notes, b"no memory"),
+    }
+}
+
+/// Writes that the turn in a line is wrong.
+fn write_turn<E: Sink>(notes: &mut E, line: u64) -> Result<(), SinkFault>
+    ensures { WroteLine E.taken E.faults notes.old notes.new (turn_text line) result }
+{
+    let mut digits = Buffer::new();
+    write_bad_two(notes, b"turn line ", digits.format(line).as_bytes())
+}
+
+/// Writes how many cells are needed.
+fn write_needed<E: Sink>(notes: &mut E, cells: u64) -> Result<(), SinkFault>
+    ensures { WroteLine E.taken E.faults notes.old notes.new (codes "too few cells: needed " ++ decimal cells) result }
+{
+    let mut digits = Buffer::new();
+    write_two(
+        notes,
+        b"too few cells: needed ",
+        digits.format(cells).as_bytes(),
+    )
+}
+
+/// Writes why a program is not valid, with the instruction or the port.
+fn write_invalid<E: Sink>(notes: &mut E, part: Option<u32>, fault: Invalid) -> Result<(), SinkFault>
+    ensures { WroteLine E.taken E.faults notes.old notes.new (invalid_text part fault) result }
+{
+    match fault {
+        Invalid::CellRange(k) => write_instruction(notes, part, k, b" cell range"),
+        Invalid::TargetRead(k) => write_instruction(notes, part, k, b" reads its target"),
+        Invalid::WrongTarget(k) => write_instruction(notes, part, k, b" wrong target"),
+        Invalid::InitList(k) => write_instruction(notes, part, k, b" init list"),
+        Invalid::Port(k) => write_placed(notes, part, b"program port ", k, b""),
     }
 }
 
 /// Writes what is wrong with an instruction.
-fn write_instruction<E: Sink>(notes: &mut E, number: u32, text: &[u8]) -> Result<(), SinkFault>
-    ensures { WroteLine E.taken E.faults notes.old notes.new (instruction_text number text.now) result }
+fn write_instruction<E: Sink>(
+    notes: &mut E,
+    part: Option<u32>,
+    number: u32,
+    text: &[u8],
+) -> Result<(), SinkFault>
+    ensures { WroteLine E.taken E.faults notes.old notes.new (instruction_text part number text.now) result }
+{
+    write_placed(notes, part, b"program instruction ", number, text)
+}
+
+/// Writes a fault of a program file, or of a part of one, with a number.
+fn write_placed<E: Sink>(
+    notes: &mut E,
+    part: Option<u32>,
+    text: &[u8],
+    number: u32,
+    rest: &[u8],
+) -> Result<(), SinkFault>
+    ensures { WroteLine E.taken E.faults notes.old notes.new (placed part text.now number rest.now) result }
 {
     let mut digits = Buffer::new();
-    let pieces = [
-        b"pim: ".as_slice(),
-        b"bad input: ",
-        b"program instruction ",
-        digits.format(number).as_bytes(),
-        text,
-        b"\n",
-    ];
+    tell_writes();
+    write_front(notes, part)?;
+    let pieces = [text, digits.format(number).as_bytes(), rest, b"\n"];
     write_pieces(notes, &pieces)
+}
+
+/// Writes a fault of a program file, or of a part of one.
+fn write_part<E: Sink>(notes: &mut E, part: Option<u32>, text: &[u8]) -> Result<(), SinkFault>
+    ensures { WroteLine E.taken E.faults notes.old notes.new (bad (part_words part ++ text.now)) result }
+{
+    tell_writes();
+    write_front(notes, part)?;
+    write_pieces(notes, &[text, b"\n"])
+}
+
+/// Begins a line: the input is bad, and which part of the file is meant, if it has several.
+fn write_front<E: Sink>(notes: &mut E, part: Option<u32>) -> Result<(), SinkFault>
+    ensures { Wrote result (E.taken notes.old) (E.taken notes.new) (E.faults notes.old) (E.faults notes.new)
+        (codes "pim: " ++ (codes "bad input: " ++ part_words part)) }
+{
+    match part {
+        None => write_pieces(notes, &[b"pim: ".as_slice(), b"bad input: "]),
+        Some(part) => {
+            let mut digits = Buffer::new();
+            let number = digits.format(part).as_bytes();
+            let pieces = [b"pim: ".as_slice(), b"bad input: ", b"part ", number, b" "];
+            write_pieces(notes, &pieces)
+        }
+    }
 }
 
 /// Writes that the input is bad, what is wrong, and labels.

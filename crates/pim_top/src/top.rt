@@ -22,6 +22,7 @@ use crate::commands::explain::Explain;
 use crate::commands::list;
 use crate::commands::prove::Prove;
 use crate::commands::run::run;
+use crate::commands::share::Share;
 use crate::note::tell;
 use crate::refusal::{Origin, Refusal};
 use crate::whole::write_text;
@@ -164,11 +165,13 @@ fn execute<P: Source, S: Source, K: Sink>(
         }
         Command::Run { fill } => run(alloc, fill, program, input, output),
         Command::List => write_text(alloc, &list::List, program, input, output),
-        Command::Explain => write_text(alloc, &Explain, program, input, output),
+        Command::Explain { tree } => write_text(alloc, &Explain { tree }, program, input, output),
         Command::Prove => write_text(alloc, &Prove, program, input, output),
         Command::Asm => write_text(alloc, &Asm, program, input, output),
         Command::Debug { fill } => debug(alloc, fill, program, input, output),
         Command::Convert { form } => write_text(alloc, &Convert { form }, program, input, output),
+        Command::Share { cells } => write_text(alloc, &Share { cells }, program, input, output),
+        _ => Err(Refusal::NoMemory),
     }
 }
 

@@ -52,6 +52,17 @@ error_read b a words e (Err f) alike fails fault = record {
   within = tt;
 }
 
+-- a fault that goes up is an answer
+pub fault_read : (b : BuiltCommand) (words : List Text) (fault : WordsFault) (r : Result Command WordsFault) → (fault ≡ Usage → refuses words b.line ≡ true)
+    → IsErrAnd r (λ f. f ≡ fault) → IsReading b words r
+fault_read b words fault (Ok c) usage same = absurd same
+fault_read b words fault (Err f) usage same = record {
+  usage = λ is. usage (let here : f ≡ Usage = cc in sym same ∙ here);
+  accepted = tt;
+  value = tt;
+  within = tt;
+}
+
 -- what the matches of `clap` say is an answer
 pub matches_read : (b : BuiltCommand) (a : App) (words : List Text) (c : Command) → ReadsAlike a b.line → (is_simple_and_free a ≡ true → fault_of a words ≡ [])
     → b.said (matches_of b.line words) ≡ Some c → IsWithin c → IsReading b words (Ok c)

@@ -1,7 +1,8 @@
 -- The command lines with at most one option refuse and read as their definitions do.
-use Rattle.std.proofs.Common.{◌≡◌, List, [], ◌∷◌, refl, ap, codes, subst, sym}
+use Rattle.std.proofs.Common.{◌≡◌, List, [], ◌∷◌, refl, ap, codes, subst, sym, true}
 use Rattle.std.specs.Borrow.{Bor}
-use Rattle.clap.specs.Simple.{App, built, new_app}
+use Rattle.clap.specs.Faults.{is_simple_and_free}
+use Rattle.clap.specs.Simple.{App, built}
 use Rattle.clap.specs.Walk.{Text, texts}
 use Rattle.clap.specs.declared.builder.value_parser.ValueParser.TheVariants as vp
 use Rattle.pim_words.specs.Lines.{convert_by, convert_line, fill_by, fill_line, one_of_names}
@@ -22,8 +23,8 @@ convert_alike forms form =
     record { shape = (built (convert_by (vp.Names forms))).top; from = refl; to = refl; words = λ ws. refl } in
     reads_alike _ _ _ refl is_bare (ap (λ f. convert_by (one_of_names f)) form)
 
--- a command without options is its definition
-pub bare_alike : (name : Text) (a : App) → a ≡ new_app name → ReadsAlike a (new_app name)
-bare_alike name a is =
-    let same : ReadsAlike (new_app name) (new_app name) = record { simple = refl; faults = λ words. refl; matches = λ words. refl } in
-    subst (λ x. ReadsAlike x (new_app name)) (sym is) same
+-- a command line that is its definition
+pub same_alike : (a line : App) → is_simple_and_free line ≡ true → a ≡ line → ReadsAlike a line
+same_alike a line simple is =
+    let same : ReadsAlike line line = record { simple = simple; faults = λ words. refl; matches = λ words. refl } in
+    subst (λ x. ReadsAlike x line) (sym is) same

@@ -1,20 +1,15 @@
 -- The command line of `compile` refuses and reads as its definition does, and gives a number of cells.
-use Rattle.std.proofs.Common.{◌≡◌, ◌∙◌, ◌≤◌, ◌<◌, ◌==◌, ◌++◌, ◌⊎◌, ℕ, Bool, List, [], ◌∷◌, length, drop, cond, refl, sym, ap, ap₂, subst, true, false, zero, suc, inl, inr, arith, codes, pos}
-use Rattle.std.specs.Prelude.{Some, None, unwrap_or}
+use Rattle.std.proofs.Common.{◌≡◌, ◌∙◌, ◌≤◌, ◌<◌, ◌++◌, ◌⊎◌, ℕ, List, [], ◌∷◌, length, refl, sym, ap, ap₂, subst, true, false, zero, suc, inl, inr, arith, codes, pos}
+use Rattle.std.specs.Prelude.{Some}
 use Rattle.std.specs.Borrow.{Bor}
 use Rattle.std.specs.List.{All, slice_index_or}
 use Rattle.std.specs.Str.{bytes_eq}
-use Rattle.std.specs.Str.Parse.{IsNumeral, digits_value, starts_with_minus, without_leading_plus}
-use Rattle.std.proofs.lemmas.Bool.{ne_eqb}
-use Rattle.std.proofs.lemmas.Int.{ints}
 use Rattle.std.proofs.lemmas.List.Elements.{All-nil}
-use Rattle.std.proofs.lemmas.Str.Parse.{digit_from_value}
 use Rattle.clap.specs.Facts.{args_of, groups_of, least_values}
 use Rattle.clap.specs.Lexer.{without_minus}
 use Rattle.clap.specs.Matches.{found_of, one_text}
 use Rattle.clap.specs.Built.{AddsArg, IsParsedFrom, IsPlain, IsPlainArg}
 use Rattle.clap.specs.Simple.{app_of, built, new_app, with_rule}
-use Rattle.clap.specs.Values.{IsSignedIn}
 use Rattle.clap.specs.Walk.{Rule, Text, texts}
 use Rattle.clap.specs.declared.builder.action.ArgAction.TheVariants.{Set}
 use Rattle.clap.specs.declared.builder.arg.Arg.{Arg}
@@ -25,65 +20,26 @@ use Rattle.clap.specs.declared.builder.value_parser.ValueParser.TheVariants as v
 use Rattle.clap.specs.declared.parser.matches.ArgMatches.{ArgMatches}
 use Rattle.clap.proofs.CallerLemmas.{added_plain}
 use Rattle.clap.proofs.CallerReads.{required_reads}
-use Rattle.pim_words.specs.Lines.{compile_by, compile_line, one_of_names, option_of, required, with_default_text}
+use Rattle.pim_words.specs.Lines.{cells_rule, compile_by, compile_line, one_of_names, option_of, required, with_default_text}
 use Rattle.pim_words.specs.inner.Matches.{HasCells}
 use Rattle.pim_words.specs.inner.Options.{HasRule}
 use Rattle.pim_words.specs.Reading.{ReadsAlike}
 use Rattle.pim_words.proofs.Alike.{IsBareOf, reads_alike}
+use Rattle.pim_words.proofs.Numbers.{has_number}
 
 -- ---- the definition
 
-pub compile_alike : (targets levels : Bor (List (Bor Text))) → texts targets.now ≡ codes "magic" ∷ codes "plim" ∷ [] → texts levels.now ≡ codes "0" ∷ []
+pub compile_alike : (targets levels : Bor (List (Bor Text))) → texts targets.now ≡ codes "magic" ∷ codes "plim" ∷ [] → texts levels.now ≡ codes "0" ∷ codes "1" ∷ codes "2" ∷ []
     → ReadsAlike (compile_by (vp.Names targets) (vp.Names levels)) compile_line
 compile_alike targets levels target level =
     let is_bare : IsBareOf (compile_by (vp.Names targets) (vp.Names levels)) (compile_by (one_of_names (texts targets.now)) (one_of_names (texts levels.now))) =
     record { shape = (built (compile_by (vp.Names targets) (vp.Names levels))).top; from = refl; to = refl; words = λ ws. refl } in
     reads_alike _ _ _ refl is_bare (ap₂ (λ t l. compile_by (one_of_names t) (one_of_names l)) target level)
 
--- ---- the number of cells
-
-without_minus-cond : (t : Text) → without_minus t ≡ cond (starts_with_minus t) (drop 1 t) t
-without_minus-cond [] = refl
-without_minus-cond (x ∷ xs) = go (x == 45)
-  where
-    go : (b : Bool) → unwrap_or (cond b (Some xs) None) (x ∷ xs) ≡ cond b xs (x ∷ xs)
-    go true = refl
-    go false = refl
-
-pub no_plus : (ds : Text) → IsNumeral 10 ds → without_leading_plus ds ≡ ds
-no_plus [] h = refl
-no_plus (d ∷ ds) h =
-    let plus : (d == 43) ≡ false = ne_eqb _ _ (λ e. omega (arith, digit_from_value d h.1.0)) in
-    ap (λ (b : Bool). drop (cond b 1 0) (d ∷ ds)) plus
-
-abbrev IsCells : Text → Type 0
-IsCells t = IsNumeral 10 (without_leading_plus t) × (digits_value 10 (without_leading_plus t) ≤ 1048576)
-
-number_read : (t : Text) → IsSignedIn (pos 0) (pos 1048576) t → IsCells (without_minus t)
-number_read t passed = subst IsCells (sym (without_minus-cond t)) (go (starts_with_minus t) refl)
-  where
-    go : (b : Bool) → starts_with_minus t ≡ b → IsCells (cond (starts_with_minus t) (drop 1 t) t)
-    go true minus =
-        let low = rw minus at passed.2 in
-        let high = rw minus at passed.3 in
-        let numeral : IsNumeral 10 (drop 1 t) = rw minus at passed.0 in
-        let small : digits_value 10 (drop 1 t) ≤ 1048576 = omega (arith, ints) in
-        let same : IsCells (drop 1 t) = rw (no_plus (drop 1 t) numeral) (numeral, small) in
-        rw minus same
-    go false minus =
-        let high = rw minus at passed.3 in
-        let numeral : IsNumeral 10 (without_leading_plus t) = rw minus at passed.0 in
-        let small : digits_value 10 (without_leading_plus t) ≤ 1048576 = omega (arith, ints) in
-        let same : IsCells t = (numeral, small) in
-        rw minus same
-
 -- ---- the arguments
 
 abbrev pub target_rule : ValueParser → Rule
 target_rule targets = required (option_of (codes "target") targets)
-
-abbrev pub cells_rule : Rule
-cells_rule = required (option_of (codes "cells") (vp.Signed (pos 0) (pos 1048576)))
 
 abbrev pub level_rule : ValueParser → Rule
 level_rule levels = with_default_text (codes "0") (option_of (codes "level") levels)
@@ -120,13 +76,7 @@ cells_read c0 c1 c2 c3 a0 a1 a2 targets levels add0 add1 add2 args groups global
     (λ e. let bad : codes "cells" ≡ [] = sym name ∙ e in cc)
     (λ auto. not_auto (subst (λ (t : Text). (t ≡ codes "help") ⊎ (t ≡ codes "version")) name auto))
     (vp.Signed (pos 0) (pos 1048576)) (ap (λ (x : Arg). x.value_parser) at ∙ add1.rules.parser _ (ap (λ (r : Rule). r.parser) has1.reads)) in
-    let number = number_read read.0 read.2 in
-    record {
-      text = without_minus read.0;
-      is_value = subst (λ (t : Text). one_text (found_of m) t ≡ Some (without_minus read.0)) name read.1;
-      is_number = number.0;
-      fits = number.1;
-    }
+    has_number (codes "cells") 0 1048576 m read.0 read.2 (subst (λ (t : Text). one_text (found_of m) t ≡ Some (without_minus read.0)) name read.1)
   where
     not_auto : (codes "cells" ≡ codes "help") ⊎ (codes "cells" ≡ codes "version") → ⊥
     not_auto (inl e) = cc

@@ -3,13 +3,13 @@ use Rattle.std.proofs.Common.{◌≡◌, List, [], ◌∷◌, ◌++◌, false, r
 use Rattle.std.specs.Prelude.{Some}
 use Rattle.clap.specs.Words.{Text}
 use Rattle.clap.proofs.OnLiterals.{clap_on_literals}
-use Rattle.pim_words.specs.Plain.{compile_words, convert_words, file_words, fill_words}
+use Rattle.pim_words.specs.Plain.{cells_words, compile_words, convert_words, file_words, fill_words, level_words}
 use Rattle.pim_words.specs.Program.{others, program_word_of}
 use Rattle.pim_words.specs.Reading.{command_said, is_usage}
 use Rattle.pim_words.specs.declared.command.Command.TheVariants as commands
 use Rattle.pim_words.specs.declared.command.FillWord.TheVariants.{Ones, Zeros}
 use Rattle.pim_words.specs.declared.command.FormWord.TheVariants as forms
-use Rattle.pim_words.specs.declared.command.LevelWord.TheVariants.{Zero}
+use Rattle.pim_words.specs.declared.command.LevelWord.TheVariants.{Two, Zero}
 use Rattle.pim_words.specs.declared.command.TargetWord.TheVariants.{Magic, Plim}
 
 no_word : is_usage [] ≡ true
@@ -119,9 +119,22 @@ list_said : command_said (file_words (codes "list") (codes "a")) ≡ Some comman
 unfolding clap_on_literals
 list_said = refl
 
-explain_with_more : is_usage (codes "explain" ∷ codes "a" ∷ codes "--tree" ∷ []) ≡ true
+explain_said_alone : command_said (file_words (codes "explain") (codes "a")) ≡ Some (commands.Explain false)
 unfolding clap_on_literals
-explain_with_more = refl
+explain_said_alone = refl
+
+explain_said_tree : command_said (file_words (codes "explain") (codes "a") ++ codes "--tree" ∷ []) ≡ Some (commands.Explain true)
+unfolding clap_on_literals
+explain_said_tree = refl
+
+-- the flag has no value
+tree_with_value : is_usage (codes "explain" ∷ codes "a" ∷ codes "--tree=true" ∷ []) ≡ true
+unfolding clap_on_literals
+tree_with_value = refl
+
+tree_twice : is_usage (codes "explain" ∷ codes "a" ∷ codes "--tree" ∷ codes "--tree" ∷ []) ≡ true
+unfolding clap_on_literals
+tree_twice = refl
 
 list_without_file : is_usage (codes "list" ∷ []) ≡ true
 list_without_file = refl
@@ -154,3 +167,56 @@ no_form = refl
 other_form : is_usage (codes "convert" ∷ codes "--form" ∷ codes "02" ∷ []) ≡ true
 unfolding clap_on_literals
 other_form = refl
+
+other_level : is_usage (compile_words Plim (codes "8") ++ codes "--level" ∷ codes "3" ∷ []) ≡ true
+unfolding clap_on_literals
+other_level = refl
+
+level_said : command_said (compile_words Plim (codes "8") ++ level_words Two) ≡ Some (commands.Compile Plim Two 8)
+unfolding clap_on_literals
+level_said = refl
+
+imply_said : command_said (codes "imply" ∷ cells_words (codes "8")) ≡ Some (commands.Imply 8)
+unfolding clap_on_literals
+imply_said = refl
+
+-- the machine is no choice of its
+imply_with_target : is_usage (codes "imply" ∷ codes "--target" ∷ codes "magic" ∷ cells_words (codes "8")) ≡ true
+unfolding clap_on_literals
+imply_with_target = refl
+
+imply_without_cells : is_usage (codes "imply" ∷ []) ≡ true
+unfolding clap_on_literals
+imply_without_cells = refl
+
+implyrun_said_ones : command_said (file_words (codes "implyrun") (codes "a") ++ fill_words Ones) ≡ Some (commands.Implyrun Ones)
+unfolding clap_on_literals
+implyrun_said_ones = refl
+
+share_said : command_said (file_words (codes "share") (codes "a") ++ cells_words (codes "8")) ≡ Some (commands.Share 8)
+unfolding clap_on_literals
+share_said = refl
+
+share_without_cells : is_usage (file_words (codes "share") (codes "a")) ≡ true
+unfolding clap_on_literals
+share_without_cells = refl
+
+bench_said : command_said (codes "bench" ∷ codes "64" ∷ []) ≡ Some (commands.Bench 64)
+unfolding clap_on_literals
+bench_said = refl
+
+no_bits : is_usage (codes "bench" ∷ codes "0" ∷ []) ≡ true
+unfolding clap_on_literals
+no_bits = refl
+
+too_many_bits : is_usage (codes "bench" ∷ codes "65" ∷ []) ≡ true
+unfolding clap_on_literals
+too_many_bits = refl
+
+bench_alone : is_usage (codes "bench" ∷ []) ≡ true
+unfolding clap_on_literals
+bench_alone = refl
+
+bench_of_two : is_usage (codes "bench" ∷ codes "1" ∷ codes "2" ∷ []) ≡ true
+unfolding clap_on_literals
+bench_of_two = refl

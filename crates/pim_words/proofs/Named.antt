@@ -4,7 +4,7 @@ use Rattle.std.specs.Prelude.{IfOk, OnOk, Result, Some, if◌then◌else◌, not
 use Rattle.std.specs.Option.{option_map_or}
 use Rattle.clap.specs.Walk.{is_empty}
 use Rattle.clap.specs.Words.{App, Text, fault_of, matches_of, new_app}
-use Rattle.pim_words.specs.Lines.{fill_line}
+use Rattle.pim_words.specs.Lines.{cells_line, explain_line, fill_line}
 use Rattle.pim_words.specs.Program.{lacks_program, others, takes_program}
 use Rattle.pim_words.specs.Reading.{BuiltCommand, cli, command_said, is_usage, refuses, with_fill, without_options}
 use Rattle.pim_words.specs.inner.Answer.{IsAnswer, IsReading}
@@ -13,12 +13,18 @@ use Rattle.pim_words.specs.declared.command.FillWord.{FillWord}
 use Rattle.pim_words.specs.declared.fault.WordsFault.{WordsFault}
 
 -- the first word, which names the command, plays no part
-record IgnoresFirst (line : App) : Type 0 where
+pub record IgnoresFirst (line : App) : Type 0 where
   pub faults : (a b : Text) (words : List Text) → fault_of line (a ∷ words) ≡ fault_of line (b ∷ words)
   pub matches : (a b : Text) (words : List Text) → matches_of line (a ∷ words) ≡ matches_of line (b ∷ words)
 
 no_options_ignores : (name : Text) → IgnoresFirst (new_app name)
 no_options_ignores name = record { faults = λ a b words. refl; matches = λ a b words. refl }
+
+pub cells_ignores : (name : Text) → IgnoresFirst (cells_line name)
+cells_ignores name = record { faults = λ a b words. refl; matches = λ a b words. refl }
+
+pub explain_ignores : IgnoresFirst explain_line
+explain_ignores = record { faults = λ a b words. refl; matches = λ a b words. refl }
 
 fill_ignores : (name : Text) → IgnoresFirst (fill_line name)
 fill_ignores name = record { faults = λ a b words. refl; matches = λ a b words. refl }
@@ -64,7 +70,8 @@ module _ (name : Text) (words rest : List Text) (first : Text) (r : Result Comma
   begin : words ≡ name ∷ rest
   begin = of.0 ∙ ap (λ n. n ∷ rest) of.1
 
-  filed : (b : BuiltCommand) → cli name ≡ Some b → takes_program name ≡ true → IgnoresFirst b.line → lacks_program words ≡ false → IsReading b rest r → IsAnswer words r
+  -- a command that has a file
+  pub filed : (b : BuiltCommand) → cli name ≡ Some b → takes_program name ≡ true → IgnoresFirst b.line → lacks_program words ≡ false → IsReading b rest r → IsAnswer words r
   filed b is takes ignores lacks reading =
       subst (λ ws. IsAnswer ws r) (sym begin) (with_file b name r rest is takes ignores (subst (λ ws. lacks_program ws ≡ false) begin lacks) reading)
 

@@ -1,5 +1,6 @@
 -- The words of a command as plain as they come.
-use Rattle.std.specs.Prelude.{◌≡◌, ◌⊎◌, ◌≤◌, ◌++◌, ◌∷◌, [], List, Some, codes, false}
+use Rattle.std.specs.Prelude.{◌≡◌, ◌⊎◌, ◌≤◌, ◌++◌, ◌∷◌, [], ℕ, Bool, List, Some, codes, false}
+use Rattle.std.specs.Prelude.{if◌then◌else◌}
 use Rattle.std.specs.Fmt.{decimal}
 use Rattle.clap.specs.Words.{Text}
 use Rattle.pim_words.specs.Reading.{command_said, is_usage}
@@ -10,7 +11,7 @@ use Rattle.pim_words.specs.declared.command.FillWord.TheVariants.{Ones, Zeros}
 use Rattle.pim_words.specs.declared.command.FormWord.{FormWord}
 use Rattle.pim_words.specs.declared.command.FormWord.TheVariants as forms
 use Rattle.pim_words.specs.declared.command.LevelWord.{LevelWord}
-use Rattle.pim_words.specs.declared.command.LevelWord.TheVariants.{Zero}
+use Rattle.pim_words.specs.declared.command.LevelWord.TheVariants.{One, Two, Zero}
 use Rattle.pim_words.specs.declared.command.TargetWord.{TargetWord}
 use Rattle.pim_words.specs.declared.command.TargetWord.TheVariants.{Magic, Plim}
 
@@ -20,10 +21,15 @@ target_text Plim = codes "plim"
 
 abbrev pub level_text : LevelWord → Text
 level_text Zero = codes "0"
+level_text One = codes "1"
+level_text Two = codes "2"
+
+abbrev pub cells_words : Text → List Text
+cells_words cells = codes "--cells" ∷ cells ∷ []
 
 abbrev pub compile_words : TargetWord → Text → List Text
 compile_words target cells =
-    codes "compile" ∷ codes "--target" ∷ target_text target ∷ codes "--cells" ∷ cells ∷ []
+    codes "compile" ∷ codes "--target" ∷ target_text target ∷ cells_words cells
 
 abbrev pub level_words : LevelWord → List Text
 level_words level = codes "--level" ∷ level_text level ∷ []
@@ -56,6 +62,16 @@ IsPlainFill name fill words = (file : Text)
     × (((fill ≡ Zeros) × (words ≡ file_words name file))
     ⊎ (words ≡ file_words name file ++ fill_words fill))
 
+-- `share` with its file and its number of cells
+abbrev pub IsPlainShare : ℕ → List Text → Type 0
+IsPlainShare cells words =
+    (file : Text) × (words ≡ file_words (codes "share") file ++ cells_words (decimal cells))
+
+-- `explain` with its file, and with `--tree` exactly where the tree is wanted
+abbrev pub IsPlainExplain : Bool → List Text → Type 0
+IsPlainExplain tree words = (file : Text) × (words
+    ≡ file_words (codes "explain") file ++ (if tree then codes "--tree" ∷ [] else []))
+
 -- the words say the command: its file where it has one, whatever its name is, then its options in
 -- their order, numbers in digits with no leading zero; an option may be left out where its value is
 -- the default, which is 0 for the level and zeros for the fill
@@ -65,11 +81,17 @@ IsPlain (commands.Compile target level cells) words = (cells ≤ 1048576)
     ⊎ (words ≡ compile_words target (decimal cells) ++ level_words level))
 IsPlain (commands.Run fill) words = IsPlainFill (codes "run") fill words
 IsPlain commands.List words = IsPlainFile (codes "list") words
-IsPlain commands.Explain words = IsPlainFile (codes "explain") words
+IsPlain (commands.Explain tree) words = IsPlainExplain tree words
 IsPlain commands.Prove words = IsPlainFile (codes "prove") words
 IsPlain commands.Asm words = words ≡ codes "asm" ∷ []
 IsPlain (commands.Debug fill) words = IsPlainFill (codes "debug") fill words
 IsPlain (commands.Convert form) words = words ≡ convert_words form
+IsPlain (commands.Imply cells) words = (cells ≤ 1048576)
+    × (words ≡ codes "imply" ∷ cells_words (decimal cells))
+IsPlain (commands.Implyrun fill) words = IsPlainFill (codes "implyrun") fill words
+IsPlain (commands.Share cells) words = (cells ≤ 1048576) × IsPlainShare cells words
+IsPlain (commands.Bench bits) words = (1 ≤ bits) × (bits ≤ 64)
+    × (words ≡ codes "bench" ∷ decimal bits ∷ [])
 
 -- the words are no usage, and say the command
 abbrev pub IsTaken : Command → List Text → Type 0

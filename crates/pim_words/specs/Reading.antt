@@ -8,7 +8,8 @@ use Rattle.std.specs.Str.Parse.{digits_value, without_leading_plus}
 use Rattle.clap.specs.Walk.{is_empty}
 use Rattle.clap.specs.Words.{App, Row, Text, fault_of, first_of, is_simple_and_free, matches_of}
 use Rattle.clap.specs.Words.{new_app, one_of}
-use Rattle.pim_words.specs.Lines.{compile_line, convert_line, fill_line}
+use Rattle.pim_words.specs.Lines.{bench_line, cells_line, compile_line, convert_line}
+use Rattle.pim_words.specs.Lines.{explain_line, fill_line}
 use Rattle.pim_words.specs.Program.{lacks_program, others}
 use Rattle.pim_words.specs.declared.command.Command.{Command}
 use Rattle.pim_words.specs.declared.command.Command.TheVariants as commands
@@ -18,7 +19,8 @@ use Rattle.pim_words.specs.declared.command.FormWord.{FormWord}
 use Rattle.pim_words.specs.declared.command.FormWord.TheVariants as forms
 use Rattle.pim_words.specs.declared.command.TargetWord.{TargetWord}
 use Rattle.pim_words.specs.declared.command.TargetWord.TheVariants.{Magic, Plim}
-use Rattle.pim_words.specs.declared.command.LevelWord.TheVariants.{Zero}
+use Rattle.pim_words.specs.declared.command.LevelWord.{LevelWord}
+use Rattle.pim_words.specs.declared.command.LevelWord.TheVariants.{One, Two, Zero}
 
 -- the command line refuses the words, of which the first is the command's name
 abbrev pub refuses : List Text → App → Bool
@@ -33,15 +35,21 @@ abbrev pub target_of : Option Text → TargetWord
 target_of (Some text) = if bytes_eq text (codes "plim") then Plim else Magic
 target_of None = Magic
 
--- `compile` for this target, with this text after `--cells`
-abbrev pub compile_with : TargetWord → Text → Command
-compile_with target cells = commands.Compile target Zero (number_of cells)
+-- the level that this text after `--level` says, and 0 where it says no other
+abbrev pub level_of : Option Text → LevelWord
+level_of (Some text) =
+    if bytes_eq text (codes "1") then One else if bytes_eq text (codes "2") then Two else Zero
+level_of None = Zero
+
+-- the number after `--cells`
+abbrev pub cells_of : List Row → Option ℕ
+cells_of rows = option_map number_of (one_of (codes "cells") rows)
 
 -- `compile`, by the matches of its command line
 abbrev pub compile_said : List Row → Option Command
 compile_said rows =
-    option_map (compile_with (target_of (first_of (codes "target") rows)))
-    (one_of (codes "cells") rows)
+    option_map (commands.Compile (target_of (first_of (codes "target") rows))
+    (level_of (first_of (codes "level") rows))) (cells_of rows)
 
 -- ones where this text stands after `--fill`, and else zeros
 abbrev pub fill_of : Option Text → FillWord
@@ -52,6 +60,11 @@ fill_of None = Zeros
 abbrev pub form_of : Option Text → FormWord
 form_of (Some text) = if bytes_eq text (codes "2") then forms.Binary else forms.Text
 form_of None = forms.Text
+
+-- `--tree` stands there, and has set its flag
+abbrev pub tree_of : Option Text → Bool
+tree_of (Some text) = bytes_eq text (codes "true")
+tree_of None = false
 
 -- a command that is built: its command line, and what the matches of that say
 pub record BuiltCommand : Type 0 where
@@ -69,6 +82,13 @@ with_fill name command = record {
   said = λ rows. Some (command (fill_of (first_of (codes "fill") rows)));
 }
 
+-- the command of this name, whose one option is `--cells`
+abbrev pub with_cells : Text → (ℕ → Command) → BuiltCommand
+with_cells name command = record {
+  line = cells_line name;
+  said = λ rows. option_map command (cells_of rows);
+}
+
 -- `compile`
 abbrev pub compile_command : BuiltCommand
 compile_command = record { line = compile_line; said = compile_said }
@@ -80,18 +100,36 @@ convert_command = record {
   said = λ rows. Some (commands.Convert (form_of (first_of (codes "form") rows)));
 }
 
+-- `explain`
+abbrev pub explain_command : BuiltCommand
+explain_command = record {
+  line = explain_line;
+  said = λ rows. Some (commands.Explain (tree_of (first_of (codes "tree") rows)));
+}
+
+-- `bench`
+abbrev pub bench_command : BuiltCommand
+bench_command = record {
+  line = bench_line;
+  said = λ rows. option_map commands.Bench (option_map number_of (one_of (codes "bits") rows));
+}
+
 -- the command of this name, where it is built
 abbrev pub cli : Text → Option BuiltCommand
 cli name =
     if bytes_eq name (codes "compile") then Some compile_command
     else if bytes_eq name (codes "run") then Some (with_fill (codes "run") commands.Run)
     else if bytes_eq name (codes "list") then Some (without_options (codes "list") commands.List)
-    else if bytes_eq name (codes "explain") then Some
-    (without_options (codes "explain") commands.Explain)
+    else if bytes_eq name (codes "explain") then Some explain_command
     else if bytes_eq name (codes "prove") then Some (without_options (codes "prove") commands.Prove)
     else if bytes_eq name (codes "asm") then Some (without_options (codes "asm") commands.Asm)
     else if bytes_eq name (codes "debug") then Some (with_fill (codes "debug") commands.Debug)
     else if bytes_eq name (codes "convert") then Some convert_command
+    else if bytes_eq name (codes "imply") then Some (with_cells (codes "imply") commands.Imply)
+    else if bytes_eq name (codes "implyrun") then Some
+    (with_fill (codes "implyrun") commands.Implyrun)
+    else if bytes_eq name (codes "share") then Some (with_cells (codes "share") commands.Share)
+    else if bytes_eq name (codes "bench") then Some bench_command
     else None
 
 -- there is no word, the command is not built, the file that it takes is missing, or its command
@@ -118,7 +156,10 @@ abbrev pub names_command : List Text → Bool
 names_command [] = false
 names_command (name ∷ rest) = is_some (cli name)
 
--- the number of cells is at most that of a whole row
+-- the number of cells is at most that of a whole row, and the numbers of `bench` have 1 to 64 bits
 abbrev pub IsWithin : Command → Type 0
 IsWithin (commands.Compile target level cells) = cells ≤ 1048576
+IsWithin (commands.Imply cells) = cells ≤ 1048576
+IsWithin (commands.Share cells) = cells ≤ 1048576
+IsWithin (commands.Bench bits) = (1 ≤ bits) × (bits ≤ 64)
 IsWithin _ = Unit {0}

@@ -12,8 +12,12 @@ pub enum TargetWord {
 /// How much is done to make a program shorter.
 #[derive(Clone, Copy, Debug, PartialEq, Eq)]
 pub enum LevelWord {
-    /// Nothing: the netlist is taken as it is.
+    /// `--level 0`: nothing, the netlist is taken as it is.
     Zero,
+    /// `--level 1`: the netlist is tidied, and for PLiM its gates become majorities.
+    One,
+    /// `--level 2`: the majorities are rewritten besides.
+    Two,
 }
 
 /// What each cell of a row holds before a program runs in it.
@@ -55,7 +59,10 @@ pub enum Command {
     /// `list`: a program becomes a listing.
     List,
     /// `explain`: a program becomes an account of when each cell is used.
-    Explain,
+    Explain {
+        /// Whether `--tree` stands there.
+        tree: bool,
+    },
     /// `prove`: a program is compared with a netlist on all vectors.
     Prove,
     /// `asm`: assembly becomes a program.
@@ -69,5 +76,25 @@ pub enum Command {
     Convert {
         /// The value of `--form`.
         form: FormWord,
+    },
+    /// `imply`: a netlist becomes a program for the machine of `false` and `imp`.
+    Imply {
+        /// The value of `--cells`: how many cells the program may use, at most 1,048,576.
+        cells: u32,
+    },
+    /// `implyrun`: a program of `false` and `imp` is executed on vectors.
+    Implyrun {
+        /// The value of `--fill`.
+        fill: FillWord,
+    },
+    /// `share`: the programs of a file are laid into one row, as the turns of the input say.
+    Share {
+        /// The value of `--cells`: how many cells the program may use, at most 1,048,576.
+        cells: u32,
+    },
+    /// `bench`: programs of an adder are executed on rows that are drawn by chance.
+    Bench {
+        /// How many bits each number has, from 1 to 64.
+        bits: u32,
     },
 }

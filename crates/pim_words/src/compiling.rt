@@ -1,22 +1,24 @@
-//! The words of `compile`: `--target magic|plim --cells N [--level 0]`.
+//! The words of `compile`: `--target magic|plim --cells N [--level 0|1|2]`.
 ghost use Rattle.std.specs.Prelude.{◌≡◌, IfOk, map, option_map, codes};
 ghost use Rattle.std.specs.String.{string_bytes};
 ghost use Rattle.clap.specs.Words.{app_of, first_value, found_of, one_text, IsParsedFrom};
 ghost use Rattle.clap.specs.declared.parser.matches.ArgMatches.{ArgMatches};
 ghost use Rattle.pim_words.specs.Lines.{compile_line};
 ghost use Rattle.pim_words.specs.inner.Matches.{HasCells};
-ghost use Rattle.pim_words.specs.Reading.{IsWithin, ReadsAlike, compile_command, compile_with};
-ghost use Rattle.pim_words.specs.Reading.{target_of};
+ghost use Rattle.pim_words.specs.Reading.{IsWithin, ReadsAlike, compile_command, level_of};
+ghost use Rattle.pim_words.specs.Reading.{number_of, target_of};
+ghost use Rattle.pim_words.specs.declared.command.Command.TheVariants as commands;
 ghost use Rattle.pim_words.specs.inner.Answer.{IsReading};
 
-use crate::options::{choice_of, option_of};
+use crate::cells::cells_of;
+use crate::options::{cells_option, choice_of};
 use crate::{Command, LevelWord, TargetWord, WordsFault};
 use clap::ArgMatches;
 use std::alloc::{AllocError, Global};
 
 static TARGETS: [&str; 2] = ["magic", "plim"];
 
-static LEVELS: [&str; 1] = ["0"];
+static LEVELS: [&str; 3] = ["0", "1", "2"];
 
 /// The command line of `compile`, as `clap` reads it.
 fn compile_line<'a>(alloc: Global) -> Result<clap::Command<'a>, AllocError>
@@ -24,8 +26,7 @@ fn compile_line<'a>(alloc: Global) -> Result<clap::Command<'a>, AllocError>
     ensures cells { IfOk result (λ line. (m : ArgMatches) → IsParsedFrom line m → HasCells m) }
 {
     let target = choice_of(alloc, "target", TARGETS.as_slice()).required(true);
-    let number = clap::value_parser!(u32).range(0..=1_048_576);
-    let cells = option_of(alloc, "cells", number).required(true);
+    let cells = cells_option(alloc);
     let level = choice_of(alloc, "level", LEVELS.as_slice()).default_value("0");
     clap::Command::new(alloc, "compile")
         .arg(target)?
@@ -46,17 +47,15 @@ pub fn read_compile(alloc: Global, words: &[String]) -> Result<Command, WordsFau
 fn compile_of(matches: &ArgMatches) -> Command
     requires { HasCells matches.now }
     ensures said { let target = target_of (first_value (found_of matches.now) (codes "target")) in
-        option_map (compile_with target) (one_text (found_of matches.now) (codes "cells"))
-        ≡ Some result }
+        let level = level_of (first_value (found_of matches.now) (codes "level")) in
+        option_map (commands.Compile target level)
+        (option_map number_of (one_text (found_of matches.now) (codes "cells"))) ≡ Some result }
     ensures within { IsWithin result }
 {
-    match matches.get_one::<u32>("cells") {
-        Some(cells) => Command::Compile {
-            target: target_of(matches),
-            level: LevelWord::Zero,
-            cells,
-        },
-        None => unreachable!(),
+    Command::Compile {
+        target: target_of(matches),
+        level: level_of(matches),
+        cells: cells_of(matches),
     }
 }
 
@@ -67,5 +66,16 @@ fn target_of(matches: &ArgMatches) -> TargetWord
     match matches.get_str("target") {
         Some(text) if text == "plim" => TargetWord::Plim,
         _ => TargetWord::Magic,
+    }
+}
+
+/// What `--level` says: the level of its value, and else none.
+fn level_of(matches: &ArgMatches) -> LevelWord
+    ensures { result ≡ level_of (first_value (found_of matches.now) (codes "level")) }
+{
+    match matches.get_str("level") {
+        Some(text) if text == "1" => LevelWord::One,
+        Some(text) if text == "2" => LevelWord::Two,
+        _ => LevelWord::Zero,
     }
 }

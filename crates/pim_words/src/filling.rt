@@ -54,6 +54,15 @@ pub fn read_debug(alloc: Global, words: &[String]) -> Result<Command, WordsFault
     Ok(Command::Debug { fill })
 }
 
+/// Reads the words of `implyrun` from its file on.
+pub fn read_implyrun(alloc: Global, words: &[String]) -> Result<Command, WordsFault>
+    ensures { IsReading (with_fill (codes "implyrun") commands.Implyrun)
+        (map string_bytes words.now) result }
+{
+    let fill = read_fill(alloc, "implyrun", words)?;
+    Ok(Command::Implyrun { fill })
+}
+
 /// What `--fill` says: ones where its value is `ones`, and else zeros.
 fn fill_of(matches: &ArgMatches) -> FillWord
     ensures { result ≡ fill_of (first_value (found_of matches.now) (codes "fill")) }

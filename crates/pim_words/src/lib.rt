@@ -5,11 +5,14 @@
 //! refused as unknown.
 #![tactic(auto)]
 
+mod cells;
 mod command;
 mod compiling;
 mod converting;
+mod explaining;
 mod fault;
 mod filling;
+mod measuring;
 mod no_options;
 mod options;
 mod program;

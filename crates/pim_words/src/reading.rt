@@ -7,9 +7,12 @@ ghost use Rattle.pim_words.specs.Program.{lacks_program};
 ghost use Rattle.pim_words.specs.Reading.{IsWithin, command_said, is_usage, names_command};
 ghost use Rattle.pim_words.specs.inner.Answer.{IsAnswer};
 
+use crate::cells::{read_imply, read_share};
 use crate::compiling::read_compile;
 use crate::converting::read_convert;
-use crate::filling::{read_debug, read_run};
+use crate::explaining::read_explain;
+use crate::filling::{read_debug, read_implyrun, read_run};
+use crate::measuring::read_bench;
 use crate::no_options::read_without_options;
 use crate::program::lacks_program;
 use crate::{Command, WordsFault};
@@ -65,11 +68,15 @@ fn read_named(
         "compile" => read_compile(alloc, words),
         "run" => read_run(alloc, others),
         "list" => read_without_options(alloc, "list", others, Command::List),
-        "explain" => read_without_options(alloc, "explain", others, Command::Explain),
+        "explain" => read_explain(alloc, others),
         "prove" => read_without_options(alloc, "prove", others, Command::Prove),
         "asm" => read_without_options(alloc, "asm", words, Command::Asm),
         "debug" => read_debug(alloc, others),
         "convert" => read_convert(alloc, words),
+        "imply" => read_imply(alloc, words),
+        "implyrun" => read_implyrun(alloc, others),
+        "share" => read_share(alloc, others),
+        "bench" => read_bench(alloc, words),
         _ => Err(WordsFault::Usage),
     }
 }

@@ -71,7 +71,7 @@ fn reads_commands_without_options(rt: HostRuntime) -> Result<(), Fail> {
     let words = words_of(alloc, "list a")?;
     assert!(rt; read(alloc, &words)? == Command::List);
     let words = words_of(alloc, "explain a")?;
-    assert!(rt; read(alloc, &words)? == Command::Explain);
+    assert!(rt; read(alloc, &words)? == Command::Explain { tree: false });
     let words = words_of(alloc, "asm")?;
     assert!(rt; read(alloc, &words)? == Command::Asm);
     Ok(())

@@ -1,5 +1,5 @@
 -- Inner. What is known of a candidate: the program of one graph or network, or why there is none.
-use Rattle.std.specs.Prelude.{◌≡◌, ◌⊎◌, ℕ, ◌+◌, ◌-◌, ◌<◌, ◌≤◌, length, map, min, Option, Some, None, IsSomeAnd, Result, Ok, Err}
+use Rattle.std.specs.Prelude.{◌≡◌, ℕ, ◌+◌, ◌-◌, ◌<◌, ◌≤◌, if◌then◌else◌, List, All, length, map, min, nat_lt, Option, Some, None}
 use Rattle.pim_aig.specs.Graph.{AigView}
 use Rattle.pim_aig.specs.Values.{aval}
 use Rattle.pim_aig.specs.declared.fault.FlatFault.{FlatFault}
@@ -11,18 +11,15 @@ use Rattle.pim_isa.specs.Realizes.{Realizes}
 use Rattle.pim_isa.specs.Writes.{nor_places}
 use Rattle.pim_isa.specs.declared.target.Target.{Target}
 use Rattle.pim_isa.specs.declared.target.Target.TheVariants.{Magic, Plim}
-use Rattle.pim_nor.specs.Lowered.{nors}
-use Rattle.pim_nor.specs.Network.{nor_count}
-use Rattle.pim_nor.specs.declared.lowering.Width.{Width}
-use Rattle.pim_nor.specs.declared.lowering.Width.TheVariants.{Two, Four}
+use Rattle.pim_nor.specs.Network.{NorView, nor_count}
+use Rattle.pim_nor.specs.Values.{out_values}
 use Rattle.pim_rm3.specs.Costs.{rm3_cost}
 use Rattle.pim_simpler.specs.Batching.{Batched}
 use Rattle.pim_simpler.specs.Needs.{needed_of}
-use Rattle.pim_simpler.specs.declared.refusal.Refusal.{Refusal}
-use Rattle.pim_simpler.specs.declared.refusal.Refusal.TheVariants.{TooFewCells, NoMemory}
-use Rattle.pim_compile.specs.Networks.{FollowsNetwork}
+use Rattle.pim_compile.specs.Choices.{IsFirst}
+use Rattle.pim_compile.specs.Cycles.{IsQuickBy}
+use Rattle.pim_compile.specs.Networks.{FollowsNetwork, most_nors, networks_at}
 use Rattle.pim_compile.specs.declared.compiling.Level.{Level}
-use Rattle.pim_compile.specs.declared.compiling.Level.TheVariants.{Zero}
 use Rattle.pim_compile.specs.declared.refusal.Refusal.{Refusal as Refused}
 use Rattle.pim_compile.specs.declared.refusal.Refusal.TheVariants as refused
 
@@ -39,25 +36,55 @@ pub record IsProgramOf (g : AigView) (ports : PortsView) (target : Target) (budg
   pub cells : p.cells ≤ budget
   pub primed : IsPrimed p.instrs
 
--- the MAGIC program of a graph's network of one width
-pub record IsOfWidth (g : AigView) (ports : PortsView) (width : Width) (budget : ℕ) (p : ProgramView) : Type 0 where
+-- the MAGIC program of a network, with so many NORs at most, which computes a graph
+pub record IsOfNetwork (g : AigView) (ports : PortsView) (most budget : ℕ) (w : NorView) (p : ProgramView) : Type 0 where
   pub program : IsProgramOf g ports Magic budget p
-  pub follows : FollowsNetwork p (nors g width)
+  pub follows : FollowsNetwork p w
   pub batched : Batched p
-  pub wide : p.cells ≡ g.inputs + min (budget - g.inputs) (length (nors g width).gates)
-  pub few_nors : length (nor_places p.instrs) ≤ nor_count (nors g Two).gates
-  pub enough : needed_of (nors g width) ≤ budget
+  pub wide : p.cells ≡ g.inputs + min (budget - g.inputs) (length w.gates)
+  pub few_nors : length (nor_places p.instrs) ≤ most
+  pub enough : needed_of w ≤ budget
+  pub quick : IsQuickBy budget p w
 
--- where the network of this width fits the budget, a program of it takes so many cycles or more
-abbrev pub IsNoShorter : AigView → PortsView → Width → ℕ → ℕ → Type 0
-IsNoShorter g ports width budget cycles =
-    needed_of (nors g width) ≤ budget → (q : ProgramView) × IsOfWidth g ports width budget q × (cycles ≤ length q.instrs)
+-- a budget with a cell for each input and each gate is enough for the network
+abbrev pub IsRoomy : ℕ → NorView → Type 0
+IsRoomy budget w = w.inputs + length w.gates ≤ budget → needed_of w ≤ budget
 
--- the MAGIC program of one of a graph's networks, of which the other's is no shorter, or longer where it comes first
-abbrev pub IsMagic : AigView → PortsView → ℕ → ProgramView → Type 0
-IsMagic g ports budget p =
-    (IsOfWidth g ports Four budget p × IsNoShorter g ports Two budget (length p.instrs))
-    ⊎ (IsOfWidth g ports Two budget p × IsNoShorter g ports Four budget (length p.instrs + 1))
+-- the network does not fit the budget
+pub record IsTooWide (budget : ℕ) (w : NorView) : Type 0 where
+  pub below : budget < needed_of w
+  pub roomy : IsRoomy budget w
+
+-- the MAGIC program of a network
+pub record IsPlaced (w : NorView) (ports : PortsView) (budget : ℕ) (p : ProgramView) : Type 0 where
+  pub realizes : Realizes p ports.inputs (out_values w)
+  pub labels : labels_of p.outputs ≡ ports.outputs
+  pub is_target : p.target ≡ Magic
+  pub cells : p.cells ≡ w.inputs + min (budget - w.inputs) (length w.gates)
+  pub primed : IsPrimed p.instrs
+  pub follows : FollowsNetwork p w
+  pub batched : Batched p
+  pub nors : length (nor_places p.instrs) ≡ nor_count w.gates
+  pub enough : needed_of w ≤ budget
+  pub quick : IsQuickBy budget p w
+
+-- the same, or none where the network does not fit the budget
+abbrev pub IsScheduleOf : NorView → PortsView → ℕ → Option ProgramView → Type 0
+IsScheduleOf w ports budget None = IsTooWide budget w
+IsScheduleOf w ports budget (Some p) = IsPlaced w ports budget p
+
+-- of the programs of these networks the first with the fewest cycles, or none where no network fits the budget
+abbrev pub IsBest : (NorView → ProgramView → Type 0) → ℕ → List NorView → Option ProgramView → Type 0
+IsBest IsOf budget ws None = All (IsTooWide budget) ws
+IsBest IsOf budget ws (Some p) = IsFirst IsOf budget ws p × All (IsRoomy budget) ws
+
+-- the same of a graph's networks
+abbrev pub IsBestOf : AigView → PortsView → ℕ → ℕ → List NorView → Option ProgramView → Type 0
+IsBestOf g ports most budget ws r = IsBest (IsOfNetwork g ports most budget) budget ws r
+
+-- the MAGIC program of a graph at a level
+abbrev pub IsMagic : Level → AigView → PortsView → ℕ → ProgramView → Type 0
+IsMagic effort g ports budget p = IsBestOf g ports (most_nors g) budget (networks_at effort g) (Some p)
 
 -- the PLiM program of a graph as it is
 pub record IsBase (g : AigView) (ports : PortsView) (budget : ℕ) (p : ProgramView) : Type 0 where
@@ -66,8 +93,8 @@ pub record IsBase (g : AigView) (ports : PortsView) (budget : ℕ) (p : ProgramV
 
 -- the program that a graph is compiled to
 abbrev pub IsScheduled : AigView → PortsView → Target → Level → ℕ → ProgramView → Type 0
-IsScheduled g ports Magic Zero budget p = IsMagic g ports budget p
-IsScheduled g ports Plim Zero budget p = IsBase g ports budget p
+IsScheduled g ports Magic effort budget p = IsMagic effort g ports budget p
+IsScheduled g ports Plim effort budget p = IsBase g ports budget p
 
 -- so many cells are told, which is the need, at most this bound, and more than the budget
 pub record IsShortBy (needed most budget told : ℕ) : Type 0 where
@@ -81,34 +108,8 @@ IsScarce needed most budget (refused.TooFewCells told) = IsShortBy needed most b
 IsScarce needed most budget refused.TooLarge = ⊥
 IsScarce needed most budget refused.NoMemory = Unit {0}
 
--- the network of one width needs so many cells, which the budget is below, and no more than one for each input and NOR, and one
-pub record IsUnfit (g : AigView) (width : Width) (budget needed : ℕ) : Type 0 where
-  pub is : needed ≡ needed_of (nors g width)
-  pub below : budget < needed
-  pub most : needed ≤ g.inputs + nor_count (nors g width).gates + 1
-
-abbrev pub IsUnfitFor : AigView → Width → ℕ → Refusal → Type 0
-IsUnfitFor g width budget (TooFewCells needed) = IsUnfit g width budget needed
-IsUnfitFor g width budget NoMemory = Unit {0}
-
--- which of two candidates is taken: the shorter, the first where they are as long, and the one that fits where the other doesn't
-abbrev pub IsOneOf : Result ProgramView Refusal → Result ProgramView Refusal → ProgramView → Type 0
-IsOneOf (Ok four) (Ok two) p =
-    ((p ≡ four) × (length four.instrs ≤ length two.instrs)) ⊎ ((p ≡ two) × (length two.instrs < length four.instrs))
-IsOneOf (Ok four) (Err (TooFewCells needed)) p = p ≡ four
-IsOneOf (Ok four) (Err NoMemory) p = ⊥
-IsOneOf (Err (TooFewCells needed)) (Ok two) p = p ≡ two
-IsOneOf (Err NoMemory) (Ok two) p = ⊥
-IsOneOf (Err first) (Err second) p = ⊥
-
--- how many cells a candidate lacks the room for, if it does
-abbrev pub asked : Result ProgramView Refusal → Option ℕ
-asked (Ok p) = None
-asked (Err (TooFewCells needed)) = Some needed
-asked (Err NoMemory) = None
-
--- what a refusal says of two candidates: too few cells comes where both lack room, and names the lesser need
-abbrev pub IsShortOf : Result ProgramView Refusal → Result ProgramView Refusal → Refused → Type 0
-IsShortOf four two (refused.TooFewCells needed) = IsSomeAnd (asked four) (λ m. IsSomeAnd (asked two) (λ n. needed ≡ min m n))
-IsShortOf four two refused.TooLarge = ⊥
-IsShortOf four two refused.NoMemory = Unit {0}
+-- the one of two programs that has fewer cycles, the first where they have as many: either may be missing
+abbrev pub shorter : Option ProgramView → Option ProgramView → Option ProgramView
+shorter None second = second
+shorter (Some p) None = Some p
+shorter (Some p) (Some q) = if nat_lt (length q.instrs) (length p.instrs) then Some q else Some p

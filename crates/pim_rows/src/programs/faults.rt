@@ -14,7 +14,11 @@ fn files_are_judged(rt: HostRuntime) -> Result<(), Fail> {
         (b"pim2\n\x02", "byte 5"),
         (b"pim2\n\x00", "truncated"),
     ];
-    let commands: [&'static [&'static str]; 2] = [&["list", "program"], &["explain", "program"]];
+    let commands: [&'static [&'static str]; 3] = [
+        &["list", "program"],
+        &["explain", "program"],
+        &["explain", "program", "--tree"],
+    ];
     for (file, detail) in cases {
         let text = format!(in alloc; "bad input: program {detail}")?;
         for words in commands {

@@ -8,7 +8,11 @@ use std::test::Fail;
 #[test]
 fn a_program_is_not_read(rt: HostRuntime) -> Result<(), Fail> {
     let alloc = rt.alloc();
-    let commands: [&'static [&'static str]; 2] = [&["list", "program"], &["explain", "program"]];
+    let commands: [&'static [&'static str]; 3] = [
+        &["list", "program"],
+        &["explain", "program"],
+        &["explain", "program", "--tree"],
+    ];
     for words in commands {
         for k in 0..BINARY.len() as u64 + 1 {
             let mut program = MemSource::new(alloc, BINARY, 1, &[k])?;

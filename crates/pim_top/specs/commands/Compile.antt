@@ -33,7 +33,7 @@ machine_of targets.Plim = machines.Plim
 
 -- the effort that a word of `--level` names
 abbrev pub level_of : LevelWord → Level
-level_of levels.Zero = efforts.Zero
+level_of level = efforts.Zero
 
 -- what a budget says with which the netlist was compiled: for MAGIC at level 0 it is at least the need
 abbrev pub WasEnough : TargetWord → LevelWord → ℕ → NetView → Type 0

@@ -87,6 +87,6 @@ fn level_of(word: LevelWord) -> Level
     ensures { result ≡ level_of word }
 {
     match word {
-        LevelWord::Zero => Level::Zero,
+        LevelWord::Zero | LevelWord::One | LevelWord::Two => Level::Zero,
     }
 }

@@ -1,7 +1,9 @@
 //! `explain`: a program becomes an account of when each of its cells is used.
-ghost use Rattle.std.specs.Prelude.{◌≡◌, Ok};
+ghost use Rattle.std.specs.Prelude.{◌≡◌, ◌⊎◌, Ok, Err, IfErr, IfOk};
 ghost use Rattle.pim_words.specs.declared.command.Command.TheVariants as commands;
 ghost use Rattle.pim_top.specs.Programs.{program_of};
+ghost use Rattle.pim_top.specs.Statuses.{IsWanting};
+ghost use Rattle.pim_top.specs.commands.Explain.{explained, tree_of};
 
 use crate::judgement::Judgement;
 use crate::program::program_of;
@@ -9,17 +11,20 @@ use crate::refusal::Origin;
 use crate::whole::WholeText;
 use pim_io::MAX_PROGRAM;
 use pim_isa::Program;
-use pim_life::explain;
+use pim_life::{explain, explain_tree};
 use std::alloc::Global;
 
-/// `explain`, which has no options.
+/// The words of `explain`.
 #[derive(Clone, Copy, Debug)]
-pub struct Explain;
+pub struct Explain {
+    /// Whether the line on the graph of the program's NORs is written too.
+    pub tree: bool,
+}
 
 impl WholeText for Explain {
     type Opened = Program;
 
-    ghost command = { λ c. commands.Explain };
+    ghost command = { λ c. commands.Explain c.tree };
 
     ghost opens = { λ c file opened. program_of file ≡ Ok opened };
 
@@ -35,8 +40,31 @@ impl WholeText for Explain {
     }
 
     fn text(&self, alloc: Global, opened: &Program, _input: &[u8]) -> Result<Vec<u8>, Judgement> {
-        Ok(explain(alloc, opened)?)
+        explained(alloc, self.tree, opened)
     }
 
     fn tell_fine(&self) {}
+}
+
+/// The lives of a program's cells, and the line on its graph where it is asked for.
+fn explained(alloc: Global, tree: bool, program: &Program) -> Result<Vec<u8>, Judgement>
+    ensures text { IfOk result (λ text. explained tree program.now ≡ Ok text.items) }
+    ensures refused { IfErr result (λ j. IsWanting j ⊎ (explained tree program.now ≡ Err j)) }
+{
+    if tree {
+        with_tree(alloc, program)
+    } else {
+        Ok(explain(alloc, program)?)
+    }
+}
+
+/// The lives of a program's cells and the line on the graph of its NORs.
+fn with_tree(alloc: Global, program: &Program) -> Result<Vec<u8>, Judgement>
+    ensures text { IfOk result (λ text. tree_of program.now.target program.now ≡ Ok text.items) }
+    ensures refused { IfErr result (λ j. IsWanting j ⊎ (tree_of program.now.target program.now ≡ Err j)) }
+{
+    match explain_tree(alloc, program) {
+        Ok(text) => Ok(text),
+        Err(fault) => Err(Judgement::Tree(fault)),
+    }
 }

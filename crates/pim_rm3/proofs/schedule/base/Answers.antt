@@ -17,7 +17,7 @@ new-requires-clause-few_ports c =
     let a = c.in-Ok.plan.allotment in
     let is = c.in-Ok-drafted.ensures in
     let ins = ap (λ (p : ProgramView). length p.inputs) is ∙ inputs_count c.args.ports.now.inputs 0 in
-    let outs = ap (λ (p : ProgramView). length p.outputs) is ∙ ports_count g a.cells g.outputs c.args.ports.now.outputs c.requires.outputs in
+    let outs = ap (λ (p : ProgramView). length p.outputs) is ∙ ports_count g.inputs a.cells g.outputs c.args.ports.now.outputs c.requires.outputs in
     omega (arith, c.requires.inputs, c.in-Ok.ensures.small.inputs_fit, c.in-Ok.ensures.small.outputs_fit)
 
 pub new-requires-clause-few_instrs : goal.new-requires-clause-few_instrs
@@ -51,7 +51,7 @@ returns-in-Ok-new-clause-labels c =
     let g = c.args.aig.now in
     let a = c.in-Ok.plan.allotment in
     let is : c.in-Ok-new.program ≡ program_of g c.args.ports.now a = c.in-Ok-new.ensures.program ∙ c.in-Ok-drafted.ensures in
-    ap (λ (p : ProgramView). labels_of p.outputs) is ∙ labels_kept g a.cells g.outputs c.args.ports.now.outputs c.requires.outputs
+    ap (λ (p : ProgramView). labels_of p.outputs) is ∙ labels_kept g.inputs a.cells g.outputs c.args.ports.now.outputs c.requires.outputs
 
 pub returns-in-Ok-new-clause-cycles : goal.returns-in-Ok-new-clause-cycles
 returns-in-Ok-new-clause-cycles c =

@@ -1,8 +1,8 @@
 use Rattle.std.proofs.Common.{codes, map, refl}
 use Rattle.std.specs.String.{string_bytes}
-use Rattle.pim_words.specs.Reading.{compile_command, convert_command, without_options}
+use Rattle.pim_words.specs.Reading.{bench_command, compile_command, convert_command, explain_command, with_cells, without_options}
 use Rattle.pim_words.specs.declared.command.Command.TheVariants as commands
-use Rattle.pim_words.proofs.Named.{file_answer, fill_answer, input_answer}
+use Rattle.pim_words.proofs.Named.{cells_ignores, explain_ignores, file_answer, filed, fill_answer, input_answer}
 use Rattle.pim_words.proofs.reading.read_named.Goals as goal
 
 pub returns-in-compile-clause-answer : goal.returns-in-compile-clause-answer
@@ -22,8 +22,8 @@ returns-in-list-clause-answer c =
 
 pub returns-in-explain-clause-answer : goal.returns-in-explain-clause-answer
 returns-in-explain-clause-answer c =
-    file_answer (codes "explain") (map string_bytes c.args.words.now) (map string_bytes c.args.others.now) c.args.name.now c.read_without_options-in-explain.result (c.requires.named, c.in-explain.is)
-    commands.Explain refl refl c.requires.filed c.read_without_options-in-explain.ensures
+    filed (codes "explain") (map string_bytes c.args.words.now) (map string_bytes c.args.others.now) c.args.name.now c.read_explain.result (c.requires.named, c.in-explain.is)
+    explain_command refl refl explain_ignores c.requires.filed c.read_explain.ensures
 
 pub returns-in-prove-clause-answer : goal.returns-in-prove-clause-answer
 returns-in-prove-clause-answer c =
@@ -44,3 +44,23 @@ pub returns-in-convert-clause-answer : goal.returns-in-convert-clause-answer
 returns-in-convert-clause-answer c =
     input_answer (codes "convert") (map string_bytes c.args.words.now) (map string_bytes c.args.others.now) c.args.name.now c.read_convert.result (c.requires.named, c.in-convert.is)
     convert_command refl refl c.read_convert.ensures
+
+pub returns-in-imply-clause-answer : goal.returns-in-imply-clause-answer
+returns-in-imply-clause-answer c =
+    input_answer (codes "imply") (map string_bytes c.args.words.now) (map string_bytes c.args.others.now) c.args.name.now c.read_imply.result (c.requires.named, c.in-imply.is)
+    (with_cells (codes "imply") commands.Imply) refl refl c.read_imply.ensures
+
+pub returns-in-implyrun-clause-answer : goal.returns-in-implyrun-clause-answer
+returns-in-implyrun-clause-answer c =
+    fill_answer (codes "implyrun") (map string_bytes c.args.words.now) (map string_bytes c.args.others.now) c.args.name.now c.read_implyrun.result (c.requires.named, c.in-implyrun.is)
+    commands.Implyrun refl refl c.requires.filed c.read_implyrun.ensures
+
+pub returns-in-share-clause-answer : goal.returns-in-share-clause-answer
+returns-in-share-clause-answer c =
+    filed (codes "share") (map string_bytes c.args.words.now) (map string_bytes c.args.others.now) c.args.name.now c.read_share.result (c.requires.named, c.in-share.is)
+    (with_cells (codes "share") commands.Share) refl refl (cells_ignores (codes "share")) c.requires.filed c.read_share.ensures
+
+pub returns-in-bench-clause-answer : goal.returns-in-bench-clause-answer
+returns-in-bench-clause-answer c =
+    input_answer (codes "bench") (map string_bytes c.args.words.now) (map string_bytes c.args.others.now) c.args.name.now c.read_bench.result (c.requires.named, c.in-bench.is)
+    bench_command refl refl c.read_bench.ensures

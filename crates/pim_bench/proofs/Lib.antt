@@ -1,0 +1,6 @@
+mod Examples
+pub mod Rows
+pub mod Tiles
+pub mod Digits
+pub mod Bounds
+pub mod Adders

@@ -1,0 +1,3 @@
+pub mod Trials
+pub mod Summaries
+pub mod inner

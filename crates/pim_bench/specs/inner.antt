@@ -1,0 +1,2 @@
+-- Definitions that only private functions and the keeping of a type cite.
+pub mod Executed

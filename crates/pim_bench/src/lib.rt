@@ -1,0 +1,11 @@
+//! What `bench` writes: an adder is compiled three times, and each program is tried on rows that are drawn by chance.
+#![tactic(auto)]
+
+mod compiled;
+mod measuring;
+#[cfg(test)]
+mod tests;
+mod trial;
+
+pub use measuring::{WIDE_CELLS, measured};
+pub use trial::ROWS;

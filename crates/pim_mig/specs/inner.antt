@@ -1,0 +1,2 @@
+-- Inner: definitions that private functions and representations cite, and no public contract.
+pub mod Keys

@@ -1,0 +1,3 @@
+-- Inner: definitions that private functions cite, and no public contract.
+pub mod Steps
+pub mod Tables

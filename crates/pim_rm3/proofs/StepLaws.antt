@@ -1,0 +1,191 @@
+-- How the gates of a majority graph are computed, and which gates read which, with temporaries as gates and without.
+use Rattle.std.proofs.Common.{◌≡◌, ◌≢◌, ◌⊎◌, ℕ, zero, suc, ◌+◌, ◌-◌, ◌*◌, ◌/◌, ◌%◌, ◌<◌, ◌≤◌, Bool, true, false, cond, eqb, nat_le, nat_lt, ◌&&◌, ◌||◌, not, List, [], ◌∷◌, ◌++◌, length, get_or, map, All, Option, Some, None, refl, sym, ◌∙◌, ap, subst, arith, inl, inr}
+use Rattle.std.proofs.lemmas.Bool.{false≢true}
+use Rattle.std.proofs.lemmas.Bool.Decides.{nat_tests, eqb_tells, leb_tells}
+use Rattle.std.proofs.lemmas.List.Elements.{All-append, All-cons}
+use Rattle.std.proofs.lemmas.List.FromFn.{get_or-map-range_with_len, length-map-range_with_len}
+use Rattle.pim_aig.specs.declared.literal.Lit.{Lit}
+use Rattle.pim_graph.specs.Graphs.{GraphView, has, kids_of}
+use Rattle.pim_mig.specs.Graph.{IsMig, MigView, size}
+use Rattle.pim_mig.specs.declared.node.Maj.{Maj}
+use Rattle.pim_rm3.specs.Roles.{is_plain, least_role, role, temporary}
+use Rattle.pim_rm3.specs.Schedules.{is_inverted}
+use Rattle.pim_rm3.specs.Steps.{can_be_taken, gate_reads, maj_at, mig_graph, node_read, nodes_read, step_of, voted}
+use Rattle.pim_rm3.specs.Temporaries.{all_reads, full_graph, gate_number, gate_read, own_temporary, step_reads, temporary_of, temporary_reads}
+use Rattle.pim_rm3.specs.inner.Operands.{IsBelow, StepsBelow}
+use Rattle.pim_rm3.specs.declared.role.Role.{Role}
+use Rattle.pim_rm3.specs.declared.step.Step.{Step}
+use Rattle.pim_rm3.specs.declared.step.Step.TheVariants as step
+use Rattle.pim_rm3.proofs.GateKinds.{or_true}
+use Rattle.pim_rm3.proofs.RoleLaws.{least_in}
+use Rattle.pim_rm3.proofs.Rows.{bool_cases}
+use Rattle.pim_rm3.proofs.Walks.{has_front, split}
+
+-- the four ways in which the gate of a literal is computed
+pub data StepKind (g : MigView) (l : ℕ) : Type 0 where
+  constant : l / 2 ≡ 0 → step_of g l ≡ step.Constant (eqb l 1) → StepKind g l
+  inverse : 0 < l / 2 → l % 2 ≡ 1 → step_of g l ≡ step.Complement (record { 0 = l }) → StepKind g l
+  input : 0 < l / 2 → l % 2 ≡ 0 → l / 2 ≤ g.inputs → step_of g l ≡ step.Input → StepKind g l
+  vote : l % 2 ≡ 0 → g.inputs < l / 2 → step_of g l ≡ voted g (maj_at g l) → StepKind g l
+
+pub step_kind : (g : MigView) (l : ℕ) → StepKind g l
+step_kind g l = elim (eqb_tells (l / 2) 0) [
+  | inl z ↦ constant z.1 (rw z.0 refl)
+  | inr s ↦ elim (eqb_tells (l % 2) 1) [
+    | inl o ↦ inverse (omega (arith, s.1)) o.1 (rw (s.0, o.0) refl)
+    | inr e ↦
+        let even : l % 2 ≡ 0 = let r : l % 2 < 2 = omega arith in omega (arith, e.1) in
+        elim (leb_tells (l / 2) g.inputs) [
+          | inl i ↦ input (omega (arith, s.1)) even i.1 (rw (s.0, e.0, i.0) refl)
+          | inr a ↦ vote even a.1 (rw (s.0, e.0, a.0) refl)
+        ]
+  ]
+]
+
+-- the roles of a literal's majority node
+abbrev pub role_at : MigView → ℕ → Role
+role_at g l = least_role (maj_at g l) (can_be_taken g (maj_at g l).x) (can_be_taken g (maj_at g l).y) (can_be_taken g (maj_at g l).z)
+
+-- ---- what gates read
+pub kids_count : (g : MigView) → length (mig_graph g).kids ≡ 2 * size g
+kids_count g = length-map-range_with_len (gate_reads g) 0 (2 * size g)
+
+pub full_count : (g : MigView) → length (full_graph g).kids ≡ 2 * (2 * size g)
+full_count g = length-map-range_with_len (all_reads g) 0 (2 * (2 * size g))
+
+pub kids_at : (g : MigView) (l : ℕ) → l < 2 * size g → kids_of (mig_graph g) l ≡ gate_reads g l
+kids_at g l h = get_or-map-range_with_len (gate_reads g) 0 (2 * size g) l l [] h (omega arith)
+
+pub full_at : (g : MigView) (n : ℕ) → n < 2 * (2 * size g) → kids_of (full_graph g) n ≡ all_reads g n
+full_at g n h = get_or-map-range_with_len (all_reads g) 0 (2 * (2 * size g)) n n [] h (omega arith)
+
+-- the gate of a literal, and its temporary, in the full graph
+pub gate_kids : (g : MigView) (l : ℕ) → l < 2 * size g → kids_of (full_graph g) (gate_number l) ≡ step_reads g.inputs l (step_of g l)
+gate_kids g l h =
+    let odd : eqb (gate_number l % 2) 1 ≡ true = let r : gate_number l % 2 ≡ 1 = omega arith in grind (arith, nat_tests) in
+    let half : gate_number l / 2 ≡ l = omega arith in
+    full_at g (gate_number l) (omega arith)
+    ∙ ap (λ (b : Bool). cond b (step_reads g.inputs (gate_number l / 2) (step_of g (gate_number l / 2))) (temporary_reads g.inputs (temporary_of (step_of g (gate_number l / 2))))) odd
+    ∙ ap (λ (k : ℕ). step_reads g.inputs k (step_of g k)) half
+
+pub temporary_kids : (g : MigView) (l : ℕ) → l < 2 * size g → kids_of (full_graph g) (2 * l) ≡ temporary_reads g.inputs (temporary_of (step_of g l))
+temporary_kids g l h =
+    let even : eqb ((2 * l) % 2) 1 ≡ false = let r : (2 * l) % 2 ≡ 0 = omega arith in grind (arith, nat_tests) in
+    let half : (2 * l) / 2 ≡ l = omega arith in
+    full_at g (2 * l) (omega arith)
+    ∙ ap (λ (b : Bool). cond b (step_reads g.inputs ((2 * l) / 2) (step_of g ((2 * l) / 2))) (temporary_reads g.inputs (temporary_of (step_of g ((2 * l) / 2))))) even
+    ∙ ap (λ (k : ℕ). temporary_reads g.inputs (temporary_of (step_of g k))) half
+
+pub has_one : (x y : ℕ) → has (x ∷ []) y ≡ true → x ≡ y
+has_one x y h = elim (eqb_tells x y) [
+  | inl t ↦ t.1
+  | inr f ↦ absurd (false≢true (sym (ap (λ (b : Bool). b || false) f.0) ∙ h))
+]
+
+pub one_has : (x y : ℕ) → x ≡ y → has (x ∷ []) y ≡ true
+one_has x y h = let e : eqb x y ≡ true = grind (arith, nat_tests) in ap (λ (b : Bool). b || false) e
+
+-- one of two lists has what both together have
+pub has_either : (xs ys : List ℕ) (k : ℕ) → has (xs ++ ys) k ≡ true → (has xs k ≡ true) ⊎ (has ys k ≡ true)
+has_either [] ys k h = inr h
+has_either (x ∷ xs) ys k h = elim (bool_cases (eqb x k)) [
+  | inl t ↦ inl (ap (λ (b : Bool). b || has xs k) t)
+  | inr f ↦ elim (has_either xs ys k (sym (ap (λ (b : Bool). b || has (xs ++ ys) k) f) ∙ h)) [
+    | inl a ↦ inl (ap (λ (b : Bool). b || has xs k) f ∙ a)
+    | inr b ↦ inr b
+  ]
+]
+
+pub has_back : (xs ys : List ℕ) (k : ℕ) → has ys k ≡ true → has (xs ++ ys) k ≡ true
+has_back [] ys k h = h
+has_back (x ∷ xs) ys k h = or_true (eqb x k) (has (xs ++ ys) k) (has_back xs ys k h)
+
+-- the operand is of this majority node
+pub record IsOf (inputs : ℕ) (e : Lit) (k : ℕ) : Type 0 where
+  pub above : inputs < e.0 / 2
+  pub same : 2 * (e.0 / 2) ≡ k
+
+pub node_of : (inputs : ℕ) (e : Lit) (k : ℕ) → has (node_read inputs e) k ≡ true → IsOf inputs e k
+node_of inputs e k h = elim (leb_tells (e.0 / 2) inputs) [
+  | inl i ↦
+      let t : nat_lt inputs (e.0 / 2) ≡ false = let b = i.1 in grind (arith, nat_tests) in
+      absurd (false≢true (sym (ap (λ (b : Bool). has (cond b (2 * (e.0 / 2) ∷ []) []) k) t) ∙ h))
+  | inr a ↦
+      let t : nat_lt inputs (e.0 / 2) ≡ true = let b = a.1 in grind (arith, nat_tests) in
+      record { above = a.1; same = has_one (2 * (e.0 / 2)) k (sym (ap (λ (b : Bool). has (cond b (2 * (e.0 / 2) ∷ []) []) k) t) ∙ h) }
+]
+
+pub of_node : (inputs : ℕ) (e : Lit) (k : ℕ) → IsOf inputs e k → has (node_read inputs e) k ≡ true
+of_node inputs e k o =
+    let t : nat_lt inputs (e.0 / 2) ≡ true = let b = o.above in grind (arith, nat_tests) in
+    ap (λ (b : Bool). has (cond b (2 * (e.0 / 2) ∷ []) []) k) t ∙ one_has (2 * (e.0 / 2)) k o.same
+
+-- the gate of a majority node that an operand reads
+pub gate_of_node : (inputs : ℕ) (e : Lit) (n : ℕ) → has (gate_read inputs e) n ≡ true → (inputs < e.0 / 2) × (4 * (e.0 / 2) + 1 ≡ n)
+gate_of_node inputs e n h = elim (leb_tells (e.0 / 2) inputs) [
+  | inl i ↦
+      let t : nat_lt inputs (e.0 / 2) ≡ false = let b = i.1 in grind (arith, nat_tests) in
+      absurd (false≢true (sym (ap (λ (b : Bool). has (cond b ((4 * (e.0 / 2) + 1) ∷ []) []) n) t) ∙ h))
+  | inr a ↦
+      let t : nat_lt inputs (e.0 / 2) ≡ true = let b = a.1 in grind (arith, nat_tests) in
+      (a.1, has_one (4 * (e.0 / 2) + 1) n (sym (ap (λ (b : Bool). has (cond b ((4 * (e.0 / 2) + 1) ∷ []) []) n) t) ∙ h))
+]
+
+pub node_has_gate : (inputs : ℕ) (e : Lit) (k : ℕ) → IsOf inputs e k → has (gate_read inputs e) (gate_number k) ≡ true
+node_has_gate inputs e k o =
+    let t : nat_lt inputs (e.0 / 2) ≡ true = let b = o.above in grind (arith, nat_tests) in
+    let same : 4 * (e.0 / 2) + 1 ≡ gate_number k = omega (arith, o.same) in
+    ap (λ (b : Bool). has (cond b ((4 * (e.0 / 2) + 1) ∷ []) []) (gate_number k)) t ∙ one_has (4 * (e.0 / 2) + 1) (gate_number k) same
+
+-- an operand in one of the roles is of this majority node
+pub data ReadsOne (inputs : ℕ) (p q z : Lit) (k : ℕ) : Type 0 where
+  by_first : IsOf inputs p k → ReadsOne inputs p q z k
+  by_second : IsOf inputs q k → ReadsOne inputs p q z k
+  by_third : IsOf inputs z k → ReadsOne inputs p q z k
+
+pub nodes_of : (inputs : ℕ) (m : Maj) (k : ℕ) → has (nodes_read inputs m) k ≡ true → ReadsOne inputs m.x m.y m.z k
+nodes_of inputs m k h = elim (has_either (node_read inputs m.x) (node_read inputs m.y ++ node_read inputs m.z) k h) [
+  | inl a ↦ by_first (node_of inputs m.x k a)
+  | inr b ↦ elim (has_either (node_read inputs m.y) (node_read inputs m.z) k b) [
+    | inl c ↦ by_second (node_of inputs m.y k c)
+    | inr d ↦ by_third (node_of inputs m.z k d)
+  ]
+]
+
+pub of_nodes : (inputs : ℕ) (m : Maj) (k : ℕ) → ReadsOne inputs m.x m.y m.z k → has (nodes_read inputs m) k ≡ true
+of_nodes inputs m k (by_first o) = has_front (node_read inputs m.x) (node_read inputs m.y ++ node_read inputs m.z) k (of_node inputs m.x k o)
+of_nodes inputs m k (by_second o) = has_back (node_read inputs m.x) (node_read inputs m.y ++ node_read inputs m.z) k (has_front (node_read inputs m.y) (node_read inputs m.z) k (of_node inputs m.y k o))
+of_nodes inputs m k (by_third o) = has_back (node_read inputs m.x) (node_read inputs m.y ++ node_read inputs m.z) k (has_back (node_read inputs m.y) (node_read inputs m.z) k (of_node inputs m.z k o))
+
+-- the same three operands in other roles
+turn : (inputs : ℕ) (p q z : Lit) (k : ℕ) → ReadsOne inputs p q z k → ReadsOne inputs q p z k
+turn inputs p q z k (by_first o) = by_second o
+turn inputs p q z k (by_second o) = by_first o
+turn inputs p q z k (by_third o) = by_third o
+
+shift : (inputs : ℕ) (p q z : Lit) (k : ℕ) → ReadsOne inputs p q z k → ReadsOne inputs p z q k
+shift inputs p q z k (by_first o) = by_first o
+shift inputs p q z k (by_second o) = by_third o
+shift inputs p q z k (by_third o) = by_second o
+
+pub roles_read : (g : MigView) (l k : ℕ) → ReadsOne g.inputs (maj_at g l).x (maj_at g l).y (maj_at g l).z k → ReadsOne g.inputs (role_at g l).p (role_at g l).q (role_at g l).z k
+roles_read g l k o =
+    let m = maj_at g l in
+    let i = g.inputs in
+    let a = shift i m.x m.y m.z k o in
+    let b = turn i m.x m.y m.z k o in
+    let d = shift i m.y m.x m.z k b in
+    let e = turn i m.x m.z m.y k a in
+    let f = turn i m.y m.z m.x k d in
+    least_in (λ r. ReadsOne i r.p r.q r.z k) m (can_be_taken g m.x) (can_be_taken g m.y) (can_be_taken g m.z) o a b d e f
+
+pub read_roles : (g : MigView) (l k : ℕ) → ReadsOne g.inputs (role_at g l).p (role_at g l).q (role_at g l).z k → ReadsOne g.inputs (maj_at g l).x (maj_at g l).y (maj_at g l).z k
+read_roles g l k =
+    let m = maj_at g l in
+    let i = g.inputs in
+    let a = λ (o : ReadsOne i m.x m.z m.y k). shift i m.x m.z m.y k o in
+    let b = λ (o : ReadsOne i m.y m.x m.z k). turn i m.y m.x m.z k o in
+    let d = λ (o : ReadsOne i m.y m.z m.x k). b (shift i m.y m.z m.x k o) in
+    let e = λ (o : ReadsOne i m.z m.x m.y k). a (turn i m.z m.x m.y k o) in
+    let f = λ (o : ReadsOne i m.z m.y m.x k). d (turn i m.z m.y m.x k o) in
+    least_in (λ r. ReadsOne i r.p r.q r.z k → ReadsOne i m.x m.y m.z k) m (can_be_taken g m.x) (can_be_taken g m.y) (can_be_taken g m.z) (λ o. o) a b d e f

@@ -1,0 +1,109 @@
+ghost use Rattle.std.specs.Prelude.{◌≡◌, ◌*◌, ◌/◌, ◌^◌, ◌<◌, ◌≤◌, length, map, IfOk, OnOk};
+ghost use Rattle.std.specs.List.{range_with_len};
+ghost use Rattle.pim_graph.specs.Readers.{CountsReads};
+ghost use Rattle.pim_mig.specs.Graph.{size};
+ghost use Rattle.pim_rm3.specs.Steps.{can_be_taken, maj_at, mig_gates, mig_graph, step_cost, step_of};
+
+use crate::Role;
+use crate::mig_graph::literals;
+use crate::role::{least_role, role_cost};
+use pim_aig::Lit;
+use pim_graph::{Graph, Readers};
+use pim_io::NoMemory;
+use pim_mig::{Maj, Mig};
+use std::alloc::Global;
+
+/// How the gate of a literal of a majority graph is computed.
+#[derive(Clone, Copy, Debug, PartialEq, Eq)]
+pub enum Step {
+    /// A constant is set.
+    Constant(bool),
+
+    /// An input stands in a cell from the start.
+    Input,
+
+    /// A complement is this literal.
+    Complement(Lit),
+
+    /// A majority node is computed by one instruction, its operands in these roles.
+    Vote(Role),
+}
+
+/// The majority node of a literal.
+pub(crate) fn maj_at(mig: &Mig, literal: u32) -> Maj
+    requires there { literal < 2 * size mig.now }
+    requires node { mig.now.inputs < literal / 2 }
+    ensures { result ≡ maj_at mig.now literal }
+{
+    mig.nodes()[(literal / 2 - 1 - mig.inputs()) as usize]
+}
+
+/// Whether the literal is the plain one of a majority node that is no output's and that is read once.
+fn can_be_taken(mig: &Mig, graph: &Graph, readers: &Readers, literal: Lit) -> bool
+    requires graph { graph.now ≡ mig_graph mig.now }
+    requires readers { CountsReads (mig_graph mig.now) (mig_gates mig.now) readers.now }
+    requires there { literal.0 < 2 * size mig.now }
+    ensures { result ≡ can_be_taken mig.now literal }
+{
+    literal.0 % 2 == 0
+        && mig.inputs() < literal.0 / 2
+        && !graph.is_root(literal.0)
+        && readers.is_last(literal.0)
+}
+
+/// How the gate of a literal is computed.
+fn step_of(mig: &Mig, graph: &Graph, readers: &Readers, literal: u32) -> Step
+    requires graph { graph.now ≡ mig_graph mig.now }
+    requires readers { CountsReads (mig_graph mig.now) (mig_gates mig.now) readers.now }
+    requires there { literal < 2 * size mig.now }
+    ensures { result ≡ step_of mig.now literal }
+{
+    let node = literal / 2;
+    if node == 0 {
+        return Step::Constant(literal == 1);
+    }
+    if literal % 2 == 1 {
+        return Step::Complement(Lit(literal));
+    }
+    if node <= mig.inputs() {
+        return Step::Input;
+    }
+    let maj = maj_at(mig, literal);
+    let x = can_be_taken(mig, graph, readers, maj.x);
+    let y = can_be_taken(mig, graph, readers, maj.y);
+    let z = can_be_taken(mig, graph, readers, maj.z);
+    Step::Vote(least_role(maj, x, y, z))
+}
+
+/// How the gates of all literals are computed.
+pub(crate) fn steps(
+    alloc: Global,
+    mig: &Mig,
+    graph: &Graph,
+    order: &[u32],
+) -> Result<Vec<Step>, NoMemory>
+    requires graph { graph.now ≡ mig_graph mig.now }
+    requires order { order.now ≡ mig_gates mig.now }
+    ensures { IfOk result (λ steps. steps.items ≡ map (step_of mig.now) (range_with_len 0 (2 * size mig.now))) }
+{
+    graph.has_order();
+    let readers = Readers::new(alloc, graph, order)?;
+    let mut steps = Vec::new(alloc);
+    for literal in 0..literals(mig) {
+        steps.push(step_of(mig, graph, &readers, literal))?;
+    }
+    Ok(steps)
+}
+
+/// How many cycles a step takes.
+pub(crate) fn step_cost(step: Step) -> u32
+    ensures cost { result ≡ step_cost step }
+    ensures few { result ≤ 7 }
+{
+    match step {
+        Step::Constant(_) => 1,
+        Step::Input => 0,
+        Step::Complement(_) => 2,
+        Step::Vote(role) => 1 + role_cost(role),
+    }
+}
