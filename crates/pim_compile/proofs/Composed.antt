@@ -21,31 +21,24 @@ use Rattle.pim_nor.specs.Network.{NorView, nor_count}
 use Rattle.pim_nor.specs.Values.{out_values}
 use Rattle.pim_nor.specs.declared.lowering.Width.{Width}
 use Rattle.pim_nor.specs.declared.lowering.Width.TheVariants.{Two, Four}
-use Rattle.pim_rm3.specs.Costs.{made_outputs, rm3_cost}
+use Rattle.pim_rm3.specs.Costs.{made_outputs}
 use Rattle.pim_simpler.specs.Batching.{Batched}
 use Rattle.pim_simpler.specs.Needs.{needed_of}
 use Rattle.pim_tidy.specs.Tidied.{tidied}
 use Rattle.pim_compile.specs.Choices.{IsCandidate, IsChosen, IsFirst}
 use Rattle.pim_compile.specs.Computes.{Computes}
-use Rattle.pim_compile.specs.Cycles.{IsQuick, IsQuickBy, IsQuickTidy, TakesCycles}
+use Rattle.pim_compile.specs.Cycles.{IsQuick, IsQuickBy, IsQuickTidy, TakesAt, TakesCycles}
 use Rattle.pim_compile.specs.Networks.{FollowsGraph, FollowsNetwork, FollowsSome, coarse_need, coarse_of, if_few, most_nors, need, need_of, networks_at, networks_of, nors_of_two, tidy_networks}
 use Rattle.pim_compile.specs.Refusals.{IsAccepted, IsEnough}
 use Rattle.pim_compile.specs.Targets.{OnMagic, OnPlim}
-use Rattle.pim_compile.specs.inner.Candidates.{IsBase, IsBestOf, IsMagic, IsOfNetwork, IsPlaced, IsProgramOf, IsScheduled, IsScheduleOf, IsTooWide, shorter}
+use Rattle.pim_compile.specs.inner.Candidates.{IsBestOf, IsMagic, IsOfNetwork, IsPlaced, IsProgramOf, IsScheduleOf, IsTooWide, shorter}
+use Rattle.pim_compile.specs.inner.Scheduled.{IsScheduled}
+use Rattle.pim_compile.specs.inner.Smart.{IsPlim}
 use Rattle.pim_compile.specs.declared.compiling.Level.{Level}
 use Rattle.pim_compile.specs.declared.compiling.Level.TheVariants as level
 use Rattle.pim_compile.specs.declared.refusal.Refusal.{Refusal as Refused}
 use Rattle.pim_compile.proofs.Best.{best_too, both_best, first_of, first_too, one_best, one_wide, quick_each}
-
--- what is realized, where two functions give the same
-Realizes-same : (p : ProgramView) (labels : List (List ℕ)) (f h : List Bool → List Bool) → ((bits : List Bool) → length bits ≡ length labels → f bits ≡ h bits) → Realizes p labels f → Realizes p labels h
-Realizes-same p labels f h same r = record {
-  inputs = r.inputs;
-  keeps_inputs = r.keeps_inputs;
-  gives_outputs = λ m bits len wide front. r.gives_outputs m bits len wide front ∙ same bits len;
-  keeps_length = r.keeps_length;
-  keeps_others = r.keeps_others;
-}
+use Rattle.pim_compile.proofs.Realized.{Realizes-same}
 
 -- neither width has more NORs than width two
 by_width : (g : AigView) (width : Width) → nor_count (nors g Four).gates ≤ most_nors g → nor_count (nors g width).gates ≤ most_nors g
@@ -315,13 +308,8 @@ compiled_magic n g ports effort budget p f c =
       accepted = record { few = f.few; enough = enough_net effort n g ports budget p f.graph c };
     }
 
-takes_cycles : (effort : Level) (n : NetView) (budget : ℕ) (p : ProgramView) → length p.instrs ≡ rm3_cost (flat n) → TakesCycles effort n budget p
-takes_cycles level.Zero n budget p is = is
-takes_cycles level.One n budget p is = omega (arith, is)
-takes_cycles level.Two n budget p is = omega (arith, is)
-
-compiled_base : (n : NetView) (g : AigView) (ports : PortsView) (effort : Level) (budget : ℕ) (p : ProgramView) → IsFlat n g ports → IsBase g ports budget p → IsCompiled n Plim effort budget p
-compiled_base n g ports effort budget p f c = record {
+compiled_plim : (n : NetView) (g : AigView) (ports : PortsView) (effort : Level) (budget : ℕ) (p : ProgramView) → IsFlat n g ports → IsPlim effort g ports budget p → IsCompiled n Plim effort budget p
+compiled_plim n g ports effort budget p f c = record {
   computes = computes_net n g ports Plim budget p f c.program;
   is_target = c.program.is_target;
   cells = c.program.cells;
@@ -331,13 +319,13 @@ compiled_base n g ports effort budget p f c = record {
   nors = tt;
   chosen = tt;
   quick = tt;
-  cycles = takes_cycles effort n budget p (c.cycles ∙ ap rm3_cost f.graph);
+  cycles = subst (λ (x : AigView). TakesAt effort x budget p) f.graph c.cycles;
   accepted = record { few = f.few; enough = tt };
 }
 
 pub compiled : (n : NetView) (g : AigView) (ports : PortsView) (target : Target) (effort : Level) (budget : ℕ) (p : ProgramView) → IsFlat n g ports → IsScheduled g ports target effort budget p → IsCompiled n target effort budget p
 compiled n g ports Magic effort budget p f c = compiled_magic n g ports effort budget p f c
-compiled n g ports Plim effort budget p f c = compiled_base n g ports effort budget p f c
+compiled n g ports Plim effort budget p f c = compiled_plim n g ports effort budget p f c
 
 -- what a call gives, where its program is compiled so
 pub compiled_gives : (n : NetView) (g : AigView) (ports : PortsView) (target : Target) (effort : Level) (budget : ℕ) (Q : ProgramView → Type 0) (r : Result ProgramView Refused) → ((p : ProgramView) → IsCompiled n target effort budget p → Q p) → IsFlat n g ports → IfOk r (IsScheduled g ports target effort budget) → IfOk r Q

@@ -5,7 +5,6 @@ ghost use Rattle.pim_aig.specs.declared.graph.TheConstants.{MAX_ANDS};
 ghost use Rattle.pim_isa.specs.Primed.{IsPrimed};
 ghost use Rattle.pim_isa.specs.Writes.{nor_places};
 ghost use Rattle.pim_isa.specs.declared.draft.TheConstants.{MAX_CELLS};
-ghost use Rattle.pim_isa.specs.declared.target.Target.TheVariants as target_is;
 ghost use Rattle.pim_simpler.specs.Batching.{Batched};
 ghost use Rattle.pim_compile.specs.Choices.{IsChosen};
 ghost use Rattle.pim_compile.specs.Computes.{Computes};
@@ -13,15 +12,15 @@ ghost use Rattle.pim_compile.specs.Cycles.{IsQuick, TakesCycles};
 ghost use Rattle.pim_compile.specs.Networks.{FollowsSome, coarse_need, coarse_of, need, need_of, nors_of_two};
 ghost use Rattle.pim_compile.specs.Refusals.{IsAccepted, IsCoarse, IsRefusal};
 ghost use Rattle.pim_compile.specs.Targets.{OnMagic, OnPlim};
-ghost use Rattle.pim_compile.specs.inner.Candidates.{IsBase, IsScarce, IsScheduled};
+ghost use Rattle.pim_compile.specs.inner.Candidates.{IsScarce};
+ghost use Rattle.pim_compile.specs.inner.Scheduled.{IsScheduled};
 
 use crate::ports::ports_of;
-use crate::{Refusal, magic};
+use crate::{Refusal, magic, plim};
 use pim_aig::{Aig, FlatFault, flatten};
 use pim_io::NoMemory;
 use pim_isa::{Ports, Program, Target};
 use pim_net::Net;
-use pim_rm3::base;
 use std::alloc::Global;
 
 /// How much is done to make a program shorter.
@@ -41,6 +40,7 @@ pub fn need(alloc: Global, net: &Net, target: Target) -> Result<u32, FlatFault>
     ensures need { IfOk result (λ cells. cells ≡ need net.now target) }
     ensures coarse { IfOk result (λ cells. cells ≤ coarse_need net.now target) }
     ensures accepted { OnOk result (ands net.now ≤ MAX_ANDS) }
+    ensures counted { OnOk result (length (flat net.now).ands ≡ ands net.now) }
     ensures fault { IfErr result (λ fault. Says fault (ands net.now)) }
 {
     let aig = flatten(alloc, net)?;
@@ -66,7 +66,9 @@ fn needed(alloc: Global, aig: &Aig, target: Target) -> Result<u32, NoMemory>
 /// as soon as their value is needed no longer. Above level 0 the two networks of the tidied graph come before these, if they
 /// have no more NORs than the flat graph's of up to two operands. The program with the fewest cycles is taken, and the first
 /// one if several have as many. For PLiM the flat graph itself is scheduled, and a gate takes over the cell of an operand
-/// that it alone reads. It takes n log n for n gates. Too many nodes come before too few cells.
+/// that it alone reads. Above level 0 the tidied graph comes before it as one of majorities, and at level 2 the same rewritten
+/// before that; a program that takes more cycles than the flat graph's is passed over. It takes n log n for n gates, and for
+/// the rewriting linear time for each of its rounds. Too many nodes come before too few cells.
 pub fn compile(
     alloc: Global,
     net: &Net,
@@ -115,24 +117,8 @@ fn scheduled(
     ensures fits { IfOk result (IsScheduled aig.now ports.now target level budget) }
     ensures refused { IfErr result (IsScarce (need_of aig.now target) (coarse_of aig.now target) budget) }
 {
-    match (target, level) {
-        (Target::Magic, _) => magic::compiled(alloc, aig, ports, level, budget),
-        (Target::Plim, Level::Zero) => plain(alloc, aig, ports, budget),
-        (Target::Plim, _) => plain(alloc, aig, ports, budget),
-    }
-}
-
-/// The PLiM program of a graph as it is.
-fn plain(alloc: Global, aig: &Aig, ports: &Ports, budget: u32) -> Result<Program, Refusal>
-    requires inputs { length ports.now.inputs ≡ aig.now.inputs }
-    requires outputs { length ports.now.outputs ≡ length aig.now.outputs }
-    requires within { budget ≤ MAX_CELLS }
-    ensures fits { IfOk result (IsBase aig.now ports.now budget) }
-    ensures refused { IfErr result (IsScarce (need_of aig.now target_is.Plim) (coarse_of aig.now target_is.Plim) budget) }
-{
-    match base(alloc, aig, ports, budget) {
-        Ok(program) => Ok(program),
-        Err(pim_rm3::Refusal::TooFewCells { needed }) => Err(Refusal::TooFewCells { needed }),
-        Err(pim_rm3::Refusal::NoMemory) => Err(Refusal::NoMemory),
+    match target {
+        Target::Magic => magic::compiled(alloc, aig, ports, level, budget),
+        Target::Plim => plim::compiled(alloc, aig, ports, level, budget),
     }
 }

@@ -3,6 +3,7 @@
 
 mod compiling;
 mod magic;
+mod plim;
 mod ports;
 mod refusal;
 mod shorter;

@@ -17,6 +17,18 @@ fn exclusive_or(alloc: Global) -> Result<Net, Fail> {
     Ok(Net::check(alloc, draft)?)
 }
 
+/// A cover of one input that is always true: the input or its complement.
+fn tautology(alloc: Global) -> Result<Net, Fail> {
+    let mut cover = Cover::new(alloc, &[0], true)?;
+    cover.add_row(&[Bit3::One])?;
+    cover.add_row(&[Bit3::Zero])?;
+    let mut draft = Draft::new(alloc);
+    draft.add_input(0, b"a")?;
+    draft.add_cover(1, cover)?;
+    draft.add_output(OutRef { sig: 1, neg: false }, b"f")?;
+    Ok(Net::check(alloc, draft)?)
+}
+
 /// Three NORs are held at once, or two ANDs and the one that reads them: five cells for either machine.
 #[test]
 fn what_an_exclusive_or_needs(rt: HostRuntime) -> Result<(), Fail> {
@@ -48,5 +60,31 @@ fn an_exclusive_or_to_magic(rt: HostRuntime) -> Result<(), Fail> {
     assert_eq!(rt; program.instrs().len(), 7);
     let refusal = compile(rt.alloc(), &net, Target::Magic, Level::Zero, 4).err();
     assert_eq!(rt; refusal, Some(Refusal::TooFewCells { needed: 5 }));
+    Ok(())
+}
+
+/// As it is, the cover takes three gates and an Init. Tidied it is the constant one, which is a cell that is set.
+#[test]
+fn a_tautology_to_magic(rt: HostRuntime) -> Result<(), Fail> {
+    let net = tautology(rt.alloc())?;
+    let flat = compile(rt.alloc(), &net, Target::Magic, Level::Zero, 4)?;
+    assert_eq!(rt; flat.cells(), 4);
+    assert_eq!(rt; flat.instrs().len(), 4);
+    let tidy = compile(rt.alloc(), &net, Target::Magic, Level::One, 4)?;
+    assert_eq!(rt; tidy.cells(), 2);
+    assert_eq!(rt; tidy.instrs().len(), 1);
+    Ok(())
+}
+
+/// Two cells are enough for the tidied graph. The netlist as it is needs three: a NOR is held with what it reads, and the input stays.
+#[test]
+fn a_tautology_below_the_need(rt: HostRuntime) -> Result<(), Fail> {
+    let net = tautology(rt.alloc())?;
+    let tidy = compile(rt.alloc(), &net, Target::Magic, Level::Two, 2)?;
+    assert_eq!(rt; tidy.cells(), 2);
+    let refusal = compile(rt.alloc(), &net, Target::Magic, Level::Two, 1).err();
+    let needed = need(rt.alloc(), &net, Target::Magic)?;
+    assert_eq!(rt; needed, 3);
+    assert_eq!(rt; refusal, Some(Refusal::TooFewCells { needed: 3 }));
     Ok(())
 }

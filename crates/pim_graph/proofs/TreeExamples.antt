@@ -1,9 +1,9 @@
 -- Small graphs that are trees, and some that are none, by computation.
-use Rattle.std.specs.Prelude.{◌≡◌, ℕ, true, false, List, [], ◌∷◌, Some, None, refl}
+use Rattle.std.specs.Prelude.{◌≡◌, [], ◌∷◌, Some, None, refl}
 use Rattle.pim_graph.specs.Graphs.{GraphView}
 use Rattle.pim_graph.specs.Orders.{order}
 use Rattle.pim_graph.specs.Peaks.{peak}
-use Rattle.pim_graph.specs.Trees.{all_reads, reaches, tree_of}
+use Rattle.pim_graph.specs.Trees.{tree_of}
 
 one_gate : tree_of (record { kids = [] ∷ []; roots = 0 ∷ [] }) ≡ Some 1
 one_gate = refl

@@ -54,6 +54,7 @@ impl Kept {
     }
 
     /// The gate that reads the same, by the numbers of the network.
+    #[inline(always)]
     fn gate(&self, gate: Gate) -> Gate
         requires { AreInputsOrFirst (length self.now) (pins gate) }
         ensures { result ≡ numbered_gate self.now gate }

@@ -19,6 +19,7 @@ pub(crate) enum Leaves {
 
 impl Leaves {
     /// The NOR of their complements, where one that repeats an earlier one is read once.
+    #[inline(always)]
     pub(crate) fn nor(self, inputs: u32) -> Gate
         requires { inputs ≤ MAX_INPUTS }
         ensures { result ≡ nor_of_leaves inputs (distinct (leaf_literals self)) }
@@ -32,6 +33,7 @@ impl Leaves {
 }
 
 /// What is read for a literal: its complement.
+#[inline(always)]
 fn operand(inputs: u32, literal: Lit) -> Pin
     requires { inputs ≤ MAX_INPUTS }
     ensures { result ≡ source inputs (complement literal) }
@@ -40,6 +42,7 @@ fn operand(inputs: u32, literal: Lit) -> Pin
 }
 
 /// The NOR of the complements of two literals. They are seldom the same.
+#[inline(always)]
 fn nor_of_two(inputs: u32, x: Lit, y: Lit) -> Gate
     requires { inputs ≤ MAX_INPUTS }
     ensures { result ≡ nor_of_leaves inputs (distinct (x ∷ y ∷ [])) }
@@ -51,6 +54,7 @@ fn nor_of_two(inputs: u32, x: Lit, y: Lit) -> Gate
 }
 
 /// The NOR of the complements of three literals. Seldom two of them are the same.
+#[inline(always)]
 fn nor_of_three(inputs: u32, x: Lit, y: Lit, z: Lit) -> Gate
     requires { inputs ≤ MAX_INPUTS }
     ensures { result ≡ nor_of_leaves inputs (distinct (x ∷ y ∷ z ∷ [])) }
@@ -62,6 +66,7 @@ fn nor_of_three(inputs: u32, x: Lit, y: Lit, z: Lit) -> Gate
 }
 
 /// The NOR of the complements of four literals. Seldom two of them are the same.
+#[inline(always)]
 fn nor_of_four(inputs: u32, x: Lit, y: Lit, z: Lit, w: Lit) -> Gate
     requires { inputs ≤ MAX_INPUTS }
     ensures { result ≡ nor_of_leaves inputs (distinct (x ∷ y ∷ z ∷ w ∷ [])) }

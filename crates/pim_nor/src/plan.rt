@@ -134,6 +134,7 @@ impl<'a> Plan<'a> {
     }
 
     /// The gate of an AND node's value: the NOR of its leaves' complements.
+    #[inline(always)]
     fn and_gate(&self, node: u32) -> Gate
         requires above { self.now.graph.inputs < node }
         requires there { node < nodes self.now.graph }
@@ -149,6 +150,7 @@ impl<'a> Plan<'a> {
 
     /// The gate of a slot: a complement is the NOT of what it complements, an AND node's value the NOR of its leaves'
     /// complements, and the constant one reads nothing.
+    #[inline(always)]
     pub(crate) fn gate_at(&self, slot: u32) -> Gate
         requires { slot < slots self.now.graph }
         ensures gate { result ≡ gate_at self.now.graph (leaves self.now.graph self.now.width) slot }

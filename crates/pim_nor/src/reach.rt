@@ -24,6 +24,7 @@ fn mark(marks: &mut Vec<bool>, pin: Pin)
 }
 
 /// Marks the gates that a gate reads.
+#[inline(always)]
 fn mark_read(marks: &mut Vec<bool>, gate: Gate)
     requires { AreInputsOrFirst (vec_len marks.old) (pins gate) }
     ensures marked { marks.new.items ≡ mark_all marks.old.items (pins gate) }

@@ -10,10 +10,9 @@ use Rattle.pim_isa.specs.Programs.{PortsView, ProgramView}
 use Rattle.pim_isa.specs.Realizes.{Realizes}
 use Rattle.pim_isa.specs.Writes.{nor_places}
 use Rattle.pim_isa.specs.declared.target.Target.{Target}
-use Rattle.pim_isa.specs.declared.target.Target.TheVariants.{Magic, Plim}
+use Rattle.pim_isa.specs.declared.target.Target.TheVariants.{Magic}
 use Rattle.pim_nor.specs.Network.{NorView, nor_count}
 use Rattle.pim_nor.specs.Values.{out_values}
-use Rattle.pim_rm3.specs.Costs.{rm3_cost}
 use Rattle.pim_simpler.specs.Batching.{Batched}
 use Rattle.pim_simpler.specs.Needs.{needed_of}
 use Rattle.pim_compile.specs.Choices.{IsFirst}
@@ -85,16 +84,6 @@ IsBestOf g ports most budget ws r = IsBest (IsOfNetwork g ports most budget) bud
 -- the MAGIC program of a graph at a level
 abbrev pub IsMagic : Level → AigView → PortsView → ℕ → ProgramView → Type 0
 IsMagic effort g ports budget p = IsBestOf g ports (most_nors g) budget (networks_at effort g) (Some p)
-
--- the PLiM program of a graph as it is
-pub record IsBase (g : AigView) (ports : PortsView) (budget : ℕ) (p : ProgramView) : Type 0 where
-  pub program : IsProgramOf g ports Plim budget p
-  pub cycles : length p.instrs ≡ rm3_cost g
-
--- the program that a graph is compiled to
-abbrev pub IsScheduled : AigView → PortsView → Target → Level → ℕ → ProgramView → Type 0
-IsScheduled g ports Magic effort budget p = IsMagic effort g ports budget p
-IsScheduled g ports Plim effort budget p = IsBase g ports budget p
 
 -- so many cells are told, which is the need, at most this bound, and more than the budget
 pub record IsShortBy (needed most budget told : ℕ) : Type 0 where
