@@ -51,8 +51,10 @@ module _ (IsOf : NorView → ProgramView → Type 0) (budget : ℕ) where
   behind_more : (ws vs : List NorView) (p : ProgramView) → All (FitsInNoFewer IsOf budget (length p.instrs + 1)) ws → IsFirst IsOf budget vs p → IsFirst IsOf budget (ws ++ vs) p
   behind_more [] vs p more first = first
   behind_more (w ∷ ws) vs p more first =
-      inr (All-head (FitsInNoFewer IsOf budget (length p.instrs + 1)) w ws more,
-      behind_more ws vs p (All-tail (FitsInNoFewer IsOf budget (length p.instrs + 1)) w ws more) first)
+      inr (
+        All-head (FitsInNoFewer IsOf budget (length p.instrs + 1)) w ws more,
+        behind_more ws vs p (All-tail (FitsInNoFewer IsOf budget (length p.instrs + 1)) w ws more) first,
+      )
 
   roomy_too : (ws : List NorView) → All (IsTooWide budget) ws → All (IsRoomy budget) ws
   roomy_too ws wide = All-weaker (IsTooWide budget) (IsRoomy budget) (λ w h. h.roomy) ws wide
@@ -65,13 +67,15 @@ module _ (IsOf : NorView → ProgramView → Type 0) (budget : ℕ) where
   shorter_first : (b : Bool) (ws vs : List NorView) (p q : ProgramView) → b ≡ nat_lt (length q.instrs) (length p.instrs) →
       IsBest IsOf budget ws (Some p) → IsBest IsOf budget vs (Some q) → IsBest IsOf budget (ws ++ vs) (if b then Some q else Some p)
   shorter_first true ws vs p q is here there =
-      let less : length q.instrs < length p.instrs = ltb-true (length q.instrs) (length p.instrs) (sym is) in
-      (behind_more ws vs q (all_fewer_too (length p.instrs) (length q.instrs + 1) ws (omega arith) (no_fewer ws p here.0)) there.0,
-      All-append (IsRoomy budget) ws vs here.1 there.1)
+      let less : length q.instrs < length p.instrs = ltb-true (length q.instrs) (length p.instrs) (sym is) in (
+        behind_more ws vs q (all_fewer_too (length p.instrs) (length q.instrs + 1) ws (omega arith) (no_fewer ws p here.0)) there.0,
+        All-append (IsRoomy budget) ws vs here.1 there.1,
+      )
   shorter_first false ws vs p q is here there =
-      let more : length p.instrs ≤ length q.instrs = ltb-false (length q.instrs) (length p.instrs) (sym is) in
-      (with_more ws vs p here.0 (all_fewer_too (length q.instrs) (length p.instrs) vs more (no_fewer vs q there.0)),
-      All-append (IsRoomy budget) ws vs here.1 there.1)
+      let more : length p.instrs ≤ length q.instrs = ltb-false (length q.instrs) (length p.instrs) (sym is) in (
+        with_more ws vs p here.0 (all_fewer_too (length q.instrs) (length p.instrs) vs more (no_fewer vs q there.0)),
+        All-append (IsRoomy budget) ws vs here.1 there.1,
+      )
 
   -- the best of two lists is the best of both together
   pub both_best : (ws vs : List NorView) (r s : Option ProgramView) → IsBest IsOf budget ws r → IsBest IsOf budget vs s → IsBest IsOf budget (ws ++ vs) (shorter r s)
@@ -102,8 +106,10 @@ module _ (IsOf IsToo : NorView → ProgramView → Type 0) (same : (w : NorView)
   first_too [] p first = first
   first_too (w ∷ ws) p first = elim first [
     | inl here ↦
-        inl (same w p here.0,
-        All-weaker (FitsInNoFewer IsOf budget (length p.instrs)) (FitsInNoFewer IsToo budget (length p.instrs)) (no_fewer_too (length p.instrs)) ws here.1)
+        inl (
+          same w p here.0,
+          All-weaker (FitsInNoFewer IsOf budget (length p.instrs)) (FitsInNoFewer IsToo budget (length p.instrs)) (no_fewer_too (length p.instrs)) ws here.1,
+        )
     | inr later ↦ inr (no_fewer_too (length p.instrs + 1) w later.0, first_too ws p later.1)
   ]
 

@@ -184,7 +184,7 @@ flat_too level.Two Q g all = All-behind Q (tidy_networks g) (networks_of g) all
 pub above_zero : (effort : Level) (g : AigView) → (effort ≡ level.One) ⊎ (effort ≡ level.Two) → networks_at effort g ≡ tidy_networks g ++ networks_of g
 above_zero effort g above =
     let N : Level → List NorView = λ e. networks_at e g in
-    elim above [ | inl one ↦ ap N one | inr two ↦ ap N two ]
+    elim above [ inl one ↦ ap N one | inr two ↦ ap N two ]
 
 -- where no network fits, the budget is below the need
 pub none_fits : (effort : Level) (g : AigView) (budget : ℕ) → All (IsTooWide budget) (networks_at effort g) → budget < need_of g Magic

@@ -3,9 +3,16 @@ use Rattle.std.specs.Prelude.{◌≡◌, true, false, List, [], ◌∷◌, refl}
 use Rattle.pim_net.specs.Netlist.{NetView}
 use Rattle.pim_net.specs.declared.cover.Bit3.{Bit3}
 use Rattle.pim_net.specs.declared.cover.Bit3.TheVariants.{Zero, One}
+use Rattle.pim_mig.specs.Majs.{majs}
 use Rattle.pim_nor.specs.Leaves.{leaves}
+use Rattle.pim_nor.specs.Lowered.{nors}
+use Rattle.pim_nor.specs.Network.{nor_count}
+use Rattle.pim_nor.specs.declared.lowering.Width.TheVariants.{Two}
 use Rattle.pim_aig.specs.Flat.{flat}
+use Rattle.pim_rewrite.specs.Rewritten.{rewritten}
 use Rattle.pim_rm3.specs.Costs.{rm3_cost}
+use Rattle.pim_rm3.specs.Steps.{smart_cost}
+use Rattle.pim_tidy.specs.Tidied.{tidied}
 use Rattle.pim_compile.specs.Networks.{need, coarse_need, nors_of_two}
 use Rattle.pim_isa.specs.declared.target.Target.TheVariants.{Magic, Plim}
 
@@ -64,3 +71,32 @@ exclusive_or-cycles = refl
 
 input_out-plim : need (record { inputs = 0 ∷ []; input_labels = []; equations = []; outputs = record { sig = 0; neg = false } ∷ []; output_labels = []; topo = [] }) Plim ≡ 1
 input_out-plim = refl
+
+-- ---- above level 0
+-- a cover of an input and of its complement
+abbrev tautology : NetView
+tautology = record {
+  inputs = 0 ∷ [];
+  input_labels = [];
+  equations = record { sig = 1; cover = record { ins = 0 ∷ []; rows = (One ∷ []) ∷ (Zero ∷ []) ∷ []; phase = true } } ∷ [];
+  outputs = record { sig = 1; neg = false } ∷ [];
+  output_labels = [];
+  topo = 0 ∷ [];
+}
+
+-- as it is it takes three NORs
+tautology-nors : nors_of_two tautology ≡ 3
+unfolding leaves
+tautology-nors = refl
+
+-- tidied it takes none: its networks, which are the constant one, come first
+tautology-tidied : nor_count (nors (tidied (flat tautology)) Two).gates ≡ 0
+unfolding leaves
+tautology-tidied = refl
+
+-- as majorities the exclusive or takes nine cycles, and rewritten five
+exclusive_or-majorities : smart_cost (majs (tidied (flat (of_two ((One ∷ Zero ∷ []) ∷ (Zero ∷ One ∷ []) ∷ []))))) ≡ 9
+exclusive_or-majorities = refl
+
+exclusive_or-rewritten : smart_cost (rewritten (majs (tidied (flat (of_two ((One ∷ Zero ∷ []) ∷ (Zero ∷ One ∷ []) ∷ [])))))) ≡ 5
+exclusive_or-rewritten = refl

@@ -11,8 +11,8 @@ ghost use Rattle.pim_tidy.specs.Tidied.{tidied};
 ghost use Rattle.pim_compile.specs.Networks.{coarse_of, if_few, most_nors, need_of, networks_at, networks_of, tidy_networks};
 ghost use Rattle.pim_compile.specs.inner.Candidates.{IsBestOf, IsMagic, IsScarce, IsScheduleOf};
 
-use crate::{Level, Refusal};
 use crate::shorter::shorter;
+use crate::{Level, Refusal};
 use pim_aig::Aig;
 use pim_io::NoMemory;
 use pim_isa::{Ports, Program};

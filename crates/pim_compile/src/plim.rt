@@ -49,12 +49,7 @@ pub(crate) fn compiled(
 }
 
 /// The schedule of a graph as it is, if it fits.
-fn plain(
-    alloc: Global,
-    aig: &Aig,
-    ports: &Ports,
-    budget: u32,
-) -> Result<Option<Program>, NoMemory>
+fn plain(alloc: Global, aig: &Aig, ports: &Ports, budget: u32) -> Result<Option<Program>, NoMemory>
     requires inputs { length ports.now.inputs ≡ aig.now.inputs }
     requires outputs { length ports.now.outputs ≡ length aig.now.outputs }
     requires within { budget ≤ MAX_CELLS }

@@ -51,6 +51,22 @@ fn an_exclusive_or_to_plim(rt: HostRuntime) -> Result<(), Fail> {
     Ok(())
 }
 
+/// As majorities each AND of a plain and a complemented input takes two cycles and a third for its store; the third AND reads both
+/// complements, and its own complement is put out: nine in all. Rewritten, the last one is a majority with one, of plain operands
+/// which it alone reads: it takes one cycle over the cell of the other, and four cells are enough.
+#[test]
+fn an_exclusive_or_of_majorities(rt: HostRuntime) -> Result<(), Fail> {
+    let net = exclusive_or(rt.alloc())?;
+    let majorities = compile(rt.alloc(), &net, Target::Plim, Level::One, 9)?;
+    assert_eq!(rt; majorities.instrs().len(), 9);
+    let rewritten = compile(rt.alloc(), &net, Target::Plim, Level::Two, 4)?;
+    assert_eq!(rt; rewritten.cells(), 4);
+    assert_eq!(rt; rewritten.instrs().len(), 5);
+    let refusal = compile(rt.alloc(), &net, Target::Plim, Level::Two, 3).err();
+    assert_eq!(rt; refusal, Some(Refusal::TooFewCells { needed: 5 }));
+    Ok(())
+}
+
 /// To MAGIC: with a cell for each of the six gates one Init and six NORs.
 #[test]
 fn an_exclusive_or_to_magic(rt: HostRuntime) -> Result<(), Fail> {

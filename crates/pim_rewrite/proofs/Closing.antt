@@ -180,7 +180,7 @@ live_grows false gone step extra st live m inputs i h = h
 live_grows true true step extra st live m inputs i h = live_append inputs (extra st m) live i h
 live_grows true false step extra st live m inputs i h = live_more inputs (extra st m ++ live) (node (step st m).lit) i (live_append inputs (extra st m) live i h)
 
-live_self : (inputs q : ℕ) (live : List ℕ) → IsLive inputs (q ∷ live) q
+pub live_self : (inputs q : ℕ) (live : List ℕ) → IsLive inputs (q ∷ live) q
 live_self inputs q live = inr (elim (eqb_tells q q) [
   | inl e ↦ let z = ap one_if e.0 in omega arith
   | inr o ↦ absurd (o.1 refl)

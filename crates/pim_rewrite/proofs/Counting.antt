@@ -2,6 +2,7 @@
 use Rattle.std.proofs.Common.{◌≡◌, ◌⊎◌, ℕ, zero, suc, ◌+◌, ◌*◌, ◌<◌, ◌≤◌, Bool, true, false, cond, eqb, ltb, not, ◌&&◌, List, [], ◌∷◌, ◌++◌, length, refl, sym, ◌∙◌, ap, arith, inl, inr}
 use Rattle.std.specs.List.{count_by, range_with_len}
 use Rattle.std.proofs.lemmas.Bool.Decides.{nat_tests, eqb_tells}
+use Rattle.std.proofs.lemmas.List.Sums.{sum_by-cons}
 use Rattle.pim_mig.specs.Needs.{times}
 use Rattle.pim_rewrite.proofs.Frame.{bool_cases, is_positive, not_positive, one_if, positive, times_self, true_not_false}
 
@@ -12,7 +13,7 @@ counted p a (suc n) = cond (p a) 1 0 + counted p (a + 1) n
 
 pub counted_is : (p : ℕ → Bool) (a n : ℕ) → count_by p (range_with_len a n) ≡ counted p a n
 counted_is p a zero = refl
-counted_is p a (suc n) = ap (λ (k : ℕ). cond (p a) 1 0 + k) (counted_is p (a + 1) n)
+counted_is p a (suc n) = sum_by-cons (λ x. cond (p x) 1 0) a (range_with_len (a + 1) n) ∙ ap (λ (k : ℕ). cond (p a) 1 0 + k) (counted_is p (a + 1) n)
 
 -- marks that are the same count the same
 pub counted_same : (p q : ℕ → Bool) (a n : ℕ) → ((i : ℕ) → p i ≡ q i) → counted p a n ≡ counted q a n

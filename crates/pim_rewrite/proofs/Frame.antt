@@ -157,7 +157,7 @@ times_self i xs = elim (eqb_tells i i) [
 ]
 
 -- nodes read earlier ones alone
-ops_before : (i : ℕ) (n : ℕ) (m : Maj) (rest : List Maj) → AreBefore n (m ∷ rest) → n ≤ i → times i (ops m) ≡ 0
+pub ops_before : (i : ℕ) (n : ℕ) (m : Maj) (rest : List Maj) → AreBefore n (m ∷ rest) → n ≤ i → times i (ops m) ≡ 0
 ops_before i n m rest b h =
     let x = times_other i (node m.x) (let e = b.x 0 none (omega arith) in omega arith) in
     let y = times_other i (node m.y) (let e = b.y 0 none (omega arith) in omega arith) in
@@ -172,16 +172,16 @@ split_by : (b : Bool) (m : Maj) (later : List ℕ) (i : ℕ) → times i (cond b
 split_by true m later i = omega arith
 split_by false m later i = omega arith
 
-from_split : (outs : List ℕ) (n : ℕ) (m : Maj) (rest : List Maj) (b : Bool) → ltb 0 (times n outs + times n (reads_from outs (suc n) rest)) ≡ b → (i : ℕ) → times i (reads_from outs n (m ∷ rest)) ≡ times i (cond b (ops m) []) + times i (reads_from outs (suc n) rest)
+pub from_split : (outs : List ℕ) (n : ℕ) (m : Maj) (rest : List Maj) (b : Bool) → ltb 0 (times n outs + times n (reads_from outs (suc n) rest)) ≡ b → (i : ℕ) → times i (reads_from outs n (m ∷ rest)) ≡ times i (cond b (ops m) []) + times i (reads_from outs (suc n) rest)
 from_split outs n m rest b e i =
     let later = reads_from outs (suc n) rest in
     ap (λ (c : Bool). times i (cond c (node m.x ∷ node m.y ∷ node m.z ∷ later) later)) e ∙ split_by b m later i
 
-cond_times : (b : Bool) (m : Maj) (j : ℕ) → times j (cond b (ops m) []) ≤ times j (ops m)
+pub cond_times : (b : Bool) (m : Maj) (j : ℕ) → times j (cond b (ops m) []) ≤ times j (ops m)
 cond_times true m j = omega arith
 cond_times false m j = omega arith
 
-by_both : (b : Bool) (o l r c : ℕ) → o ≡ 0 → c ≤ o → r ≡ c + l → r ≡ l
+pub by_both : (b : Bool) (o l r c : ℕ) → o ≡ 0 → c ≤ o → r ≡ c + l → r ≡ l
 by_both b o l r c e f g = omega arith
 
 -- the reads of needed nodes are those of the nodes that are needed by the whole graph

@@ -197,10 +197,10 @@ operand_taken m e f w l (yzx a b d) h = elim h [
 ]
 
 third_is : (g : MigView) (m : Maj) (e f w c l : Lit) → Taken m e f w → is_spreadable g e ≡ true → is_spreadable g f ≡ true → IsOperand l m → is_spreadable g l ≡ false → l ≡ w
-third_is g m e f w c l taken p q h no = elim (operand_taken m e f w l taken h) [
-  | inl a ↦ absurd (true_not_false (is_spreadable g l) (ap (is_spreadable g) a ∙ p) no)
+third_is g m e f w c l taken p q h not = elim (operand_taken m e f w l taken h) [
+  | inl a ↦ absurd (true_not_false (is_spreadable g l) (ap (is_spreadable g) a ∙ p) not)
   | inr r ↦ elim r [
-    | inl a ↦ absurd (true_not_false (is_spreadable g l) (ap (is_spreadable g) a ∙ q) no)
+    | inl a ↦ absurd (true_not_false (is_spreadable g l) (ap (is_spreadable g) a ∙ q) not)
     | inr a ↦ a
   ]
 ]
@@ -215,10 +215,10 @@ no_pair g m s t (a_case e f w c is) hs ht apart ns nt =
 
 -- ---- the literals of a case
 -- a literal is of a needed node before this one that is not gone
-record IsKept (g : MigView) (n : ℕ) (l : Lit) : Type 0 where
-  before : node l < n
-  needed : is_needed g (node l) ≡ true
-  stays : gone g (node l) ≡ false
+pub record IsKept (g : MigView) (n : ℕ) (l : Lit) : Type 0 where
+  pub before : node l < n
+  pub needed : is_needed g (node l) ≡ true
+  pub stays : gone g (node l) ≡ false
 
 pub record AreKept (g : MigView) (n : ℕ) (c : Case) : Type 0 where
   pub s : IsKept g n c.s
@@ -310,7 +310,7 @@ inner_closed laws g st live c n len cl cov is =
     (three_live g.inputs live (inner st.lits c) (kept_live g st.lits live c.u n len cov is.u) (kept_live g st.lits live c.v n len cov is.v) (kept_live g st.lits live c.w n len cov is.w))
 
 -- the case of a node, if it has one
-same_case : (o : Option Case) (c d : Case) → o ≡ Some c → o ≡ Some d → c ≡ d
+pub same_case : (o : Option Case) (c d : Case) → o ≡ Some c → o ≡ Some d → c ≡ d
 same_case o c d e f = let g : Some c ≡ Some d = sym e ∙ f in (let h : c ≡ d = cc in h)
 
 kept_of : (g : MigView) (k : ℕ) (m : Maj) (c : Case) → IsMig g → AtNode g k m → case_of g m ≡ Some c → View g m → AreKept g (1 + g.inputs + k) c

@@ -145,12 +145,12 @@ cond_some true o c h = (refl, h)
 cond_some false o c h = absurd (let z : ⊥ = cc in z)
 
 -- what a pair that has a case tells
-record PairCase (g : MigView) (e f w : Lit) (c : Case) : Type 0 where
-  first : is_spreadable g e ≡ true
-  second : is_spreadable g f ≡ true
-  match : match_nodes (node_at g e) (node_at g f) w ≡ Some c
+pub record PairCase (g : MigView) (e f w : Lit) (c : Case) : Type 0 where
+  pub first : is_spreadable g e ≡ true
+  pub second : is_spreadable g f ≡ true
+  pub match : match_nodes (node_at g e) (node_at g f) w ≡ Some c
 
-pair_case : (g : MigView) (e f w : Lit) (c : Case) → match_pair g e f w ≡ Some c → PairCase g e f w c
+pub pair_case : (g : MigView) (e f w : Lit) (c : Case) → match_pair g e f w ≡ Some c → PairCase g e f w c
 pair_case g e f w c h =
     let p = cond_some (is_spreadable g e && is_spreadable g f) (match_nodes (node_at g e) (node_at g f) w) c h in
     let q = both (is_spreadable g e) (is_spreadable g f) p.0 in

@@ -1,6 +1,7 @@
-ghost use Rattle.std.specs.Prelude.{◌≡◌, ◌*◌, ◌+◌, ◌<◌, ◌≤◌, ℕ, length, IfSome};
+ghost use Rattle.std.specs.Prelude.{◌≡◌, ◌*◌, ◌+◌, ◌<◌, ◌≤◌, ◌&&◌, ℕ, is_some, length, IfSome};
 ghost use Rattle.pim_aig.specs.Graph.{IsOfFirst};
 ghost use Rattle.pim_mig.specs.Graph.{size};
+ghost use Rattle.pim_mig.specs.Needs.{is_needed};
 ghost use Rattle.pim_rewrite.specs.Cases.{case_of, has, has_case, is_spreadable, match_nodes, match_pair, node_at, other};
 ghost use Rattle.pim_rewrite.specs.inner.Tables.{IsBefore, IsCaseBefore};
 
@@ -84,13 +85,27 @@ pub(crate) fn case_of(reading: &Reading, node: Maj) -> Option<Case>
     ensures case { result ≡ case_of reading.now node }
     ensures before { IfSome result (λ case. (n : ℕ) → IsBefore n node → IsCaseBefore n case) }
 {
+    let _ = reading.nodes();
     if let Some(case) = match_pair(reading, node.x, node.y, node.z) {
         return Some(case);
     }
     if let Some(case) = match_pair(reading, node.x, node.z, node.y) {
         return Some(case);
     }
-    match_pair(reading, node.y, node.z, node.x)
+    let last = match_pair(reading, node.y, node.z, node.x);
+    match last {
+        Some(case) => Some(case),
+        None => None,
+    }
+}
+
+/// Whether a node is needed and has a case.
+fn is_case(reading: &Reading, number: u32, node: Maj) -> bool
+    requires number_there { number < size reading.now }
+    requires there { IsBefore (size reading.now) node }
+    ensures { result ≡ (is_needed reading.now number && is_some (case_of reading.now node)) }
+{
+    reading.is_needed(number) && case_of(reading, node).is_some()
 }
 
 /// Whether a needed node has a case. Linear time.
@@ -100,7 +115,7 @@ pub(crate) fn has_case(reading: &Reading) -> bool
     let nodes = reading.nodes();
     let mut number = 1 + reading.inputs();
     for node in nodes {
-        if reading.is_needed(number) && case_of(reading, *node).is_some() {
+        if is_case(reading, number, *node) {
             return true;
         }
         number += 1;

@@ -6,5 +6,7 @@ mod cases;
 mod passes;
 mod reading;
 mod rewriting;
+#[cfg(test)]
+mod tests;
 
 pub use rewriting::{MAX_REWRITTEN, rewrite};

@@ -1,15 +1,15 @@
-ghost use Rattle.std.specs.Prelude.{◌≡◌, ◌+◌, ◌*◌, ◌<◌, ◌≤◌, [], All, None, List, length, map, IfOk, OnOk};
+ghost use Rattle.std.specs.Prelude.{◌≡◌, ◌+◌, ◌*◌, ◌<◌, ◌≤◌, [], All, true, List, length, map, IfOk, OnOk};
 ghost use Rattle.pim_aig.specs.Graph.{IsOfFirst};
 ghost use Rattle.pim_aig.specs.declared.graph.TheConstants.{MAX_OUTPUTS};
 ghost use Rattle.pim_mig.specs.Graph.{size};
 ghost use Rattle.pim_mig.specs.Majs.{moved};
-ghost use Rattle.pim_mig.specs.Needs.{needed_count};
+ghost use Rattle.pim_mig.specs.Needs.{is_needed, needed_count};
 ghost use Rattle.pim_mig.specs.declared.node.TheConstants.{MAX_NODES};
 ghost use Rattle.pim_rewrite.specs.Cases.{case_of, spread_case};
 ghost use Rattle.pim_rewrite.specs.Normal.{HasValues};
-ghost use Rattle.pim_rewrite.specs.Passes.{flipped, inversions, inverted, moved_node, passed, passing, plainly};
+ghost use Rattle.pim_rewrite.specs.Passes.{flipped, inverted, passed, passing, plainly, stepped};
 ghost use Rattle.pim_rewrite.specs.inner.Steps.{step_of};
-ghost use Rattle.pim_rewrite.specs.inner.Tables.{IsBefore, IsCaseBefore};
+ghost use Rattle.pim_rewrite.specs.inner.Tables.{IsBefore, IsCaseBefore, most_made};
 ghost use Rattle.pim_rewrite.specs.declared.rewriting.TheConstants.{MAX_REWRITTEN};
 
 use crate::cases::{Case, case_of};
@@ -63,14 +63,41 @@ fn move_nodes(
     let mut lits = plain_literals(alloc, reading.inputs())?;
     let nodes = reading.nodes();
     for node in nodes {
-        let literal = if reading.is_needed(lits.len() as u32) {
-            step(reading, pass, made, &lits, *node)?
-        } else {
-            Lit::FALSE
-        };
+        let literal = step_if_needed(reading, pass, made, &lits, *node)?;
         lits.push(literal)?;
     }
     Ok(lits)
+}
+
+/// Makes what a pass makes of one node, if it is needed: the one after those that have a literal.
+fn step_if_needed(
+    reading: &Reading,
+    pass: Pass,
+    made: &mut Mig,
+    lits: &[Lit],
+    node: Maj,
+) -> Result<Lit, NoMemory>
+    requires same { made.old.inputs ≡ reading.now.inputs }
+    requires count { length lits.now < size reading.now }
+    requires lits_there { All (IsOfFirst (size made.old)) lits.now }
+    requires node_there { IsBefore (length lits.now) node }
+    requires room { is_needed reading.now (length lits.now) ≡ true → length made.old.nodes + 1 < MAX_NODES }
+    ensures literal { IfOk result (λ l. l
+        ≡ (stepped (is_needed reading.now (length lits.now)) (step_of pass reading.now) (record { nodes = made.old.nodes; lits = lits.now }) node).lit) }
+    ensures nodes { OnOk result (made.new ≡ record made.old {
+      nodes = (stepped (is_needed reading.now (length lits.now)) (step_of pass reading.now) (record { nodes = made.old.nodes; lits = lits.now }) node).nodes;
+    }) }
+    ensures there { IfOk result (IsOfFirst (size made.new)) }
+    ensures no_fewer { OnOk result (length made.old.nodes ≤ length made.new.nodes) }
+    ensures few { OnOk result (length made.new.nodes
+        ≤ length made.old.nodes + most_made (is_needed reading.now (length lits.now)) (case_of reading.now node)) }
+{
+    let _ = reading.nodes();
+    if !reading.is_needed(lits.len() as u32) {
+        return Ok(Lit::FALSE);
+    }
+    let literal = step(reading, pass, made, lits, node)?;
+    Ok(literal)
 }
 
 /// Makes what a pass makes of one needed node.
@@ -92,12 +119,17 @@ fn step(
     }) }
     ensures there { IfOk result (IsOfFirst (size made.new)) }
     ensures no_fewer { OnOk result (length made.old.nodes ≤ length made.new.nodes) }
-    ensures two_more { OnOk result (length made.new.nodes ≤ length made.old.nodes + 2) }
-    ensures one_more { OnOk result (case_of reading.now node ≡ None → length made.new.nodes ≤ length made.old.nodes + 1) }
+    ensures few { OnOk result (length made.new.nodes ≤ length made.old.nodes + most_made true (case_of reading.now node)) }
 {
     match pass {
-        Pass::Copy => copy_node(made, lits, node),
-        Pass::Flip => flip_node(made, lits, node),
+        Pass::Copy => {
+            let copied = copy_node(made, lits, node)?;
+            Ok(copied)
+        }
+        Pass::Flip => {
+            let flipped = flip_node(made, lits, node)?;
+            Ok(flipped)
+        }
         Pass::Distribute => match case_of(reading, node) {
             None => copy_node(made, lits, node),
             Some(case) => spread_node(made, lits, case),
@@ -152,7 +184,8 @@ fn flip_node(made: &mut Mig, lits: &[Lit], node: Maj) -> Result<Lit, NoMemory>
         let turned = made.node(x.complement(), y.complement(), z.complement())?;
         return Ok(turned.complement());
     }
-    made.node(x, y, z)
+    let literal = made.node(x, y, z)?;
+    Ok(literal)
 }
 
 /// The majority of the shared operands and the majority of the rest.

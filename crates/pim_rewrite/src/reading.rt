@@ -1,4 +1,4 @@
-ghost use Rattle.std.specs.Prelude.{◌≡◌, ◌+◌, ◌^◌, ◌<◌, ◌≤◌, ℕ, length, map, slice_index_or, IfOk};
+ghost use Rattle.std.specs.Prelude.{◌≡◌, ◌+◌, ◌^◌, ◌<◌, ◌≤◌, ◌∷◌, [], if◌then◌else◌, ℕ, length, map, nat_lt, slice_index_or, IfOk};
 ghost use Rattle.pim_aig.specs.Graph.{IsOfFirst};
 ghost use Rattle.pim_aig.specs.Literals.{node};
 ghost use Rattle.pim_mig.specs.Graph.{IsMig, size};
@@ -106,10 +106,22 @@ fn count_outputs(alloc: Global, mig: &Mig) -> Result<Vec<u32>, NoMemory>
     ensures counts { IfOk result (λ outs. (n : ℕ) → n < size mig.now → slice_index_or outs.items n 0 ≡ named mig.now n) }
 {
     let mut outs = vec![in alloc; 0; 1 + mig.inputs() as usize + mig.nodes().len()]?;
-    for output in mig.outputs() {
-        outs[output.node() as usize] += 1;
+    let outputs = mig.outputs();
+    for output in outputs {
+        count(&mut outs, output.node());
     }
     Ok(outs)
+}
+
+/// Counts one more of a node.
+fn count(table: &mut Vec<u32>, node: u32)
+    requires there { node < length table.old.items }
+    requires room { (n : ℕ) → n < length table.old.items → slice_index_or table.old.items n 0 < 2 ^ 30 }
+    ensures count { length table.new.items ≡ length table.old.items }
+    ensures counts { (n : ℕ) → n < length table.old.items
+        → slice_index_or table.new.items n 0 ≡ times n (node ∷ []) + slice_index_or table.old.items n 0 }
+{
+    table[node as usize] += 1;
 }
 
 /// How often needed nodes read each node, where so many outputs are of it: from the last node down, since only later ones read it.
@@ -124,22 +136,32 @@ fn count_reads(alloc: Global, mig: &Mig, outs: &[u32]) -> Result<Vec<u32>, NoMem
     let mut reads = vec![in alloc; 0; first + nodes.len()]?;
     for done in 0..nodes.len() {
         let k = nodes.len() - 1 - done;
-        if outs[first + k] > 0 || reads[first + k] > 0 {
-            read_operands(&mut reads, nodes[k]);
-        }
+        let needed = is_read(outs, &reads, first + k);
+        read_operands(&mut reads, nodes[k], needed);
     }
     Ok(reads)
 }
 
-/// Counts the operands of one node more.
-fn read_operands(reads: &mut Vec<u32>, node: Maj)
+/// Whether a node is an output's or read.
+fn is_read(outs: &[u32], reads: &[u32], node: usize) -> bool
+    requires in_outs { node < length outs.now }
+    requires in_reads { node < length reads.now }
+    ensures { result ≡ nat_lt 0 (slice_index_or outs.now node 0 + slice_index_or reads.now node 0) }
+{
+    outs[node] > 0 || reads[node] > 0
+}
+
+/// Counts the operands of a node, if it is needed.
+fn read_operands(reads: &mut Vec<u32>, node: Maj, needed: bool)
     requires there { IsBefore (length reads.old.items) node }
-    requires room { (n : ℕ) → slice_index_or reads.old.items n 0 < 2 ^ 30 }
+    requires room { (n : ℕ) → n < length reads.old.items → slice_index_or reads.old.items n 0 < 2 ^ 30 }
     ensures count { length reads.new.items ≡ length reads.old.items }
     ensures counts { (n : ℕ) → n < length reads.old.items
-        → slice_index_or reads.new.items n 0 ≡ times n (operand_nodes node) + slice_index_or reads.old.items n 0 }
+        → slice_index_or reads.new.items n 0 ≡ times n (if needed then operand_nodes node else []) + slice_index_or reads.old.items n 0 }
 {
-    reads[node.x.node() as usize] += 1;
-    reads[node.y.node() as usize] += 1;
-    reads[node.z.node() as usize] += 1;
+    if needed {
+        reads[node.x.node() as usize] += 1;
+        reads[node.y.node() as usize] += 1;
+        reads[node.z.node() as usize] += 1;
+    }
 }

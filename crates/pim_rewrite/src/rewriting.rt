@@ -22,6 +22,7 @@ pub const MAX_REWRITTEN: u32 = pim_aig::MAX_ANDS;
 pub fn rewrite(alloc: Global, mig: &Mig) -> Result<Mig, NoMemory>
     requires { length mig.now.nodes ≤ MAX_REWRITTEN }
     ensures rewritten { IfOk result (λ new. new ≡ rewritten mig.now) }
+    ensures inputs { IfOk result (λ new. new.inputs ≡ mig.now.inputs) }
     ensures values { IfOk result (λ new. HasValues mig.now new) }
     ensures normal { IfOk result IsNormal }
     ensures no_more { IfOk result (λ new. needed_count new ≤ needed_count mig.now) }
@@ -37,6 +38,7 @@ fn settle(alloc: Global, mig: Mig, most: usize) -> Result<Mig, NoMemory>
     requires enough { needed_count mig ≤ most }
     requires upright { AreUpright mig.nodes }
     ensures rounds { IfOk result (λ new. new ≡ rounds most mig) }
+    ensures inputs { IfOk result (λ new. new.inputs ≡ mig.inputs) }
     ensures values { IfOk result (λ new. HasValues mig new) }
     ensures no_more { IfOk result (λ new. needed_count new ≤ needed_count mig) }
     ensures upright { IfOk result (λ new. AreUpright new.nodes) }

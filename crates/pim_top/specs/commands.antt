@@ -3,6 +3,8 @@ pub mod Compile
 pub mod Convert
 pub mod Debug
 pub mod Explain
+pub mod Imply
+pub mod Implyrun
 pub mod List
 pub mod Prove
 pub mod Run

@@ -4,6 +4,8 @@ pub mod compile;
 pub mod convert;
 pub mod debug;
 pub mod explain;
+pub mod imply;
+pub mod implyrun;
 pub mod list;
 pub mod prove;
 pub mod run;

@@ -1,5 +1,5 @@
 -- Inner. What the tables of a reading tell of a graph, and bounds.
-use Rattle.std.specs.Prelude.{◌≡◌, ℕ, ◌<◌, ◌≤◌, List, [], ◌∷◌, length, slice_index_or}
+use Rattle.std.specs.Prelude.{◌≡◌, ℕ, ◌<◌, ◌≤◌, Bool, true, false, List, [], ◌∷◌, length, Option, Some, None, slice_index_or}
 use Rattle.pim_aig.specs.Graph.{IsOfFirst}
 use Rattle.pim_aig.specs.Literals.{node}
 use Rattle.pim_mig.specs.Graph.{MigView, size}
@@ -31,3 +31,9 @@ pub record IsCaseBefore (n : ℕ) (c : Case) : Type 0 where
 -- the nodes of the operands
 abbrev pub operand_nodes : Maj → List ℕ
 operand_nodes m = node m.x ∷ node m.y ∷ node m.z ∷ []
+
+-- how many nodes a pass makes at most of a node: none if it is not needed, two of one that has a case, and one of another
+abbrev pub most_made : Bool → Option Case → ℕ
+most_made false c = 0
+most_made true None = 1
+most_made true (Some c) = 2

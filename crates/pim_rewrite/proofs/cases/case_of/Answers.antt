@@ -1,18 +1,21 @@
-use Rattle.std.proofs.Common.{rules, ◌≡◌, ◌+◌, ◌*◌, ◌<◌, ◌≤◌, [], ◌∷◌, ◌++◌, All, None, Some, List, length, map, ℕ, ◌-◌, Bool, true, false, drop, get_or, refl, sym, ◌∙◌, ap, subst, arith}
-use Rattle.pim_aig.specs.Graph.{IsOfFirst}
-use Rattle.pim_mig.specs.Graph.{size}
-use Rattle.pim_rewrite.specs.Cases.{case_of, has, has_case, is_spreadable, match_nodes, match_pair, node_at, other}
-use Rattle.pim_rewrite.specs.inner.Tables.{IsBefore, IsCaseBefore}
+use Rattle.std.proofs.Common.{◌≡◌, ◌∙◌, sym}
+use Rattle.pim_rewrite.proofs.Loops.{pair_before}
 use Rattle.pim_rewrite.proofs.cases.case_of.Goals as goal
 
--- src/cases.rt:88:9
 pub returns-in-Some-clause-before : goal.returns-in-Some-clause-before
-returns-in-Some-clause-before c = ?
+returns-in-Some-clause-before c = λ n h.
+    let m = c.args.node in
+    let t = c.requires.there in
+    pair_before c.args.reading.now m.x m.y m.z c.in-Some.case n c.nodes.ensures.sound t.x t.y (sym c.match_pair.ensures ∙ c.in-Some.is) h.x h.y h.z
 
--- src/cases.rt:91:9
 pub returns-in-Some-match_pair-clause-before : goal.returns-in-Some-match_pair-clause-before
-returns-in-Some-match_pair-clause-before c = ?
+returns-in-Some-match_pair-clause-before c = λ n h.
+    let m = c.args.node in
+    let t = c.requires.there in
+    pair_before c.args.reading.now m.x m.z m.y c.in-Some-match_pair.case n c.nodes.ensures.sound t.x t.z (sym c.match_pair-2.ensures ∙ c.in-Some-match_pair.is) h.x h.z h.y
 
--- src/cases.rt:82:1
-pub returns-clause-before : goal.returns-clause-before
-returns-clause-before c = ?
+pub returns-in-Some-last-clause-before : goal.returns-in-Some-last-clause-before
+returns-in-Some-last-clause-before c = λ n h.
+    let m = c.args.node in
+    let t = c.requires.there in
+    pair_before c.args.reading.now m.y m.z m.x c.in-Some-last.case n c.nodes.ensures.sound t.y t.z (sym c.match_pair-last.ensures ∙ c.in-Some-last.is) h.y h.z h.x

@@ -1,10 +1,10 @@
-use Rattle.std.proofs.Common.{rules, ◌≡◌, ◌+◌, ◌*◌, ◌<◌, ◌≤◌, [], ◌∷◌, ◌++◌, All, None, Some, List, length, map, ℕ, ◌-◌, Bool, true, false, drop, get_or, refl, sym, ◌∙◌, ap, subst, arith}
-use Rattle.pim_aig.specs.Graph.{IsOfFirst}
-use Rattle.pim_mig.specs.Graph.{size}
-use Rattle.pim_rewrite.specs.Cases.{case_of, has, has_case, is_spreadable, match_nodes, match_pair, node_at, other}
-use Rattle.pim_rewrite.specs.inner.Tables.{IsBefore, IsCaseBefore}
+use Rattle.std.proofs.Common.{◌≡◌, ◌+◌, arith}
+use Rattle.pim_rewrite.proofs.Frame.{none}
+use Rattle.pim_rewrite.proofs.Loops.{case_step}
 use Rattle.pim_rewrite.proofs.cases.has_case.Goals as goal
 
--- src/cases.rt:102:5
 pub loop-node-preserved : goal.loop-node-preserved
-loop-node-preserved c = ?
+loop-node-preserved c = record {
+  whole = case_step c.args.reading.now c.loop-node.number c.loop-node.node-index c.nodes-nodes.result.now none c.is_case.result c.loop-node-test.true c.is_case.ensures c.if-is_case.false c.loop-node.invariant.whole;
+  number = omega arith;
+}

@@ -1,18 +1,21 @@
-use Rattle.std.proofs.Common.{rules, ◌≡◌, ◌+◌, ◌*◌, ◌<◌, ◌≤◌, [], ◌∷◌, ◌++◌, All, None, Some, List, length, map, ℕ, ◌-◌, Bool, true, false, drop, get_or, refl, sym, ◌∙◌, ap, subst, arith}
-use Rattle.pim_aig.specs.Graph.{IsOfFirst}
-use Rattle.pim_aig.specs.declared.graph.TheConstants.{MAX_OUTPUTS}
-use Rattle.pim_mig.specs.Graph.{size}
+use Rattle.std.proofs.Common.{List, map, sym, ◌∙◌, ap}
+use Rattle.pim_aig.specs.declared.literal.Lit.{Lit}
+use Rattle.pim_mig.specs.Graph.{MigView}
 use Rattle.pim_mig.specs.Majs.{moved}
-use Rattle.pim_mig.specs.Needs.{needed_count}
-use Rattle.pim_mig.specs.declared.node.TheConstants.{MAX_NODES}
-use Rattle.pim_rewrite.specs.Cases.{case_of, spread_case}
-use Rattle.pim_rewrite.specs.Normal.{HasValues}
-use Rattle.pim_rewrite.specs.Passes.{flipped, inversions, inverted, moved_node, passed, passing, plainly}
 use Rattle.pim_rewrite.specs.inner.Steps.{step_of}
-use Rattle.pim_rewrite.specs.inner.Tables.{IsBefore, IsCaseBefore}
-use Rattle.pim_rewrite.specs.declared.rewriting.TheConstants.{MAX_REWRITTEN}
+use Rattle.pim_rewrite.proofs.Loops.{step_grows, step_values}
+use Rattle.pim_rewrite.proofs.Values.{AreTwo, passed_values}
 use Rattle.pim_rewrite.proofs.passes.make.Goals as goal
 
--- src/passes.rt:34:1
 pub returns-clause-values : goal.returns-clause-values
-returns-clause-values c = ?
+returns-clause-values c = λ bits count.
+    let g = c.args.reading.now in
+    let t = c.add_outputs.new.made in
+    let laws = c.nodes_have_laws.ensures in
+    let outs = c.in_ok-add_outputs.ensures in
+    let nodes = c.in_ok-lits.ensures.nodes in
+    let same = ap (λ (h : MigView). h.inputs) outs ∙ ap (λ (h : MigView). h.inputs) nodes ∙ ap (λ (h : MigView). h.inputs) c.new-made.ensures ∙ c.inputs.ensures.count in
+    let two : AreTwo g t bits = record { sound = c.inputs.ensures.sound; laws = laws; old = c.has_values.ensures; new = c.has_values-2.ensures; same = same; count = count } in
+    passed_values (step_of c.args.pass g) g t bits two (step_grows laws g c.args.pass) (step_values g t bits c.args.pass two)
+    (ap (λ (h : MigView). h.nodes) outs ∙ ap (λ (h : MigView). h.nodes) nodes)
+    (ap (λ (h : MigView). h.outputs) outs ∙ ap (λ (xs : List Lit). map (moved xs) c.outputs.result.now) (c.deref.ensures.value ∙ c.in_ok-lits.ensures.literals) ∙ ap (map (moved _)) c.outputs.ensures.literals)

@@ -1,18 +1,13 @@
-use Rattle.std.proofs.Common.{rules, ◌≡◌, ◌+◌, ◌*◌, ◌<◌, ◌≤◌, [], ◌∷◌, ◌++◌, All, None, Some, List, length, map, ℕ, ◌-◌, Bool, true, false, drop, get_or, refl, sym, ◌∙◌, ap, subst, arith}
-use Rattle.pim_aig.specs.Graph.{IsOfFirst}
-use Rattle.pim_aig.specs.declared.graph.TheConstants.{MAX_OUTPUTS}
-use Rattle.pim_mig.specs.Graph.{size}
-use Rattle.pim_mig.specs.Majs.{moved}
-use Rattle.pim_mig.specs.Needs.{needed_count}
-use Rattle.pim_mig.specs.declared.node.TheConstants.{MAX_NODES}
-use Rattle.pim_rewrite.specs.Cases.{case_of, spread_case}
-use Rattle.pim_rewrite.specs.Normal.{HasValues}
-use Rattle.pim_rewrite.specs.Passes.{flipped, inversions, inverted, moved_node, passed, passing, plainly}
-use Rattle.pim_rewrite.specs.inner.Steps.{step_of}
-use Rattle.pim_rewrite.specs.inner.Tables.{IsBefore, IsCaseBefore}
-use Rattle.pim_rewrite.specs.declared.rewriting.TheConstants.{MAX_REWRITTEN}
+use Rattle.std.proofs.Common.{◌+◌, length, arith}
+use Rattle.pim_rewrite.specs.Cases.{case_of}
+use Rattle.pim_rewrite.proofs.Rounds.{most_one}
 use Rattle.pim_rewrite.proofs.passes.step.Goals as goal
 
--- src/passes.rt:103:27
 pub spread_node-requires-clause-case_there : goal.spread_node-requires-clause-case_there
-spread_node-requires-clause-case_there c = ?
+spread_node-requires-clause-case_there c = c.in-Some.ensures.before (length c.args.lits.now) c.requires.node_there
+
+pub returns-in_ok-copied-in-Copy-clause-few : goal.returns-in_ok-copied-in-Copy-clause-few
+returns-in_ok-copied-in-Copy-clause-few c = omega (arith, c.in_ok-copied.ensures.one_more, most_one (case_of c.args.reading.now c.args.node))
+
+pub returns-in_ok-flipped-in-Flip-clause-few : goal.returns-in_ok-flipped-in-Flip-clause-few
+returns-in_ok-flipped-in-Flip-clause-few c = omega (arith, c.in_ok-flipped.ensures.one_more, most_one (case_of c.args.reading.now c.args.node))

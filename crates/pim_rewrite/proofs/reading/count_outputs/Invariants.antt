@@ -8,5 +8,5 @@ use Rattle.pim_rewrite.proofs.reading.count_outputs.Given as goal
 abbrev pub invariant-loop-output : goal.invariant-loop-output
 invariant-loop-output l = record {
   count : length l.outs.items ≡ size l.mig;
-  counts : (n : ℕ) → slice_index_or l.outs.items n 0 ≡ times n (map node (take l.output-index l.output-items));
+  counts : (n : ℕ) → n < size l.mig → slice_index_or l.outs.items n 0 ≡ times n (map node (take l.output-index l.outputs));
 }

@@ -8,6 +8,6 @@ use Rattle.pim_rewrite.proofs.reading.count_reads.Given as goal
 abbrev pub invariant-loop-done : goal.invariant-loop-done
 invariant-loop-done l = record {
   count : length l.reads.items ≡ size l.mig;
-  counts : (n : ℕ) → slice_index_or l.reads.items n 0
+  counts : (n : ℕ) → n < size l.mig → slice_index_or l.reads.items n 0
       ≡ times n (reads_from (map node l.mig.outputs) (1 + l.mig.inputs + (length l.nodes - l.done)) (drop (length l.nodes - l.done) l.nodes));
 }

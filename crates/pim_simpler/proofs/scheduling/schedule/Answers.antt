@@ -159,5 +159,5 @@ returns-clause-quick c =
     (follows_draft n c.args.ports.now (order_of n) end c.in-Ok.program plan c.requires.inputs c.requires.outputs whole c.laws.ensures.writes).count
     ∙ counted n c.graph-graph.result.now c.in_ok-gates.gates.items c.graph-graph.ensures.graph c.in_ok-gates.ensures.order plan.placed c.in_ok-gates.ensures.complete c.graph-graph.ensures.reached in
     λ enough.
-        quick_draft n c.args.ports.now (order_of n) end c.in-Ok.program plan c.requires.inputs c.requires.outputs whole (nor_count n.gates) nors
-        (omega (arith, c.min.ensures, c.inputs-inputs.ensures.count, ap (λ (gs : List Gate). length gs) c.gates.ensures.gates))
+    quick_draft n c.args.ports.now (order_of n) end c.in-Ok.program plan c.requires.inputs c.requires.outputs whole (nor_count n.gates) nors
+    (omega (arith, c.min.ensures, c.inputs-inputs.ensures.count, ap (λ (gs : List Gate). length gs) c.gates.ensures.gates))
