@@ -2,6 +2,8 @@
 #![tactic(auto)]
 
 mod bits;
+#[cfg(test)]
+mod by_chance;
 mod command;
 mod fault;
 mod history;

@@ -7,7 +7,7 @@ use std::alloc::Global;
 use std::test::Fail;
 
 /// The AND of the inputs in the cells 0 and 1 as the output in cell 4, by four instructions.
-fn and_draft(alloc: Global) -> Result<ProgramDraft, NoMemory>
+pub(crate) fn and_draft(alloc: Global) -> Result<ProgramDraft, NoMemory>
     ensures { IfOk result (λ draft. (length draft.inputs ≡ 2) × (length draft.outputs ≡ 1) × (length draft.instrs ≡ 4)) }
 {
     let mut cells = Cells::new(alloc);
