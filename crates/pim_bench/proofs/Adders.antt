@@ -1,7 +1,7 @@
 -- How many parts an adder has.
-use Rattle.std.proofs.Common.{◌≡◌, ◌∙◌, ◌+◌, ◌*◌, ◌≤◌, ℕ, zero, suc, List, [], ◌∷◌, ◌++◌, length, map, refl, sym, ap, arith, sum_by}
+use Rattle.std.proofs.Common.{◌≡◌, ◌∙◌, ◌+◌, ◌*◌, ◌≤◌, ℕ, List, [], ◌∷◌, ◌++◌, length, map, refl, sym, ap, arith, sum_by}
 use Rattle.std.specs.List.{flat_map, range_with_len}
-use Rattle.std.proofs.lemmas.List.{length-append, length-map}
+use Rattle.std.proofs.lemmas.List.{length-append}
 use Rattle.std.proofs.lemmas.List.FromFn.{length-map-range_with_len, length-range_with_len}
 use Rattle.std.proofs.lemmas.List.Sums.{sum_by-append}
 use Rattle.pim_adder.specs.Adders.{adder, bit_equations, carry, numbered, plain, sum}
@@ -14,7 +14,6 @@ use Rattle.pim_isa.specs.declared.port.Port.{Port}
 use Rattle.pim_isa.specs.declared.target.Target.{Target}
 use Rattle.pim_net.specs.Netlist.{DraftView, NetView, draft_of}
 use Rattle.pim_net.specs.declared.parts.Equation.{Equation}
-use Rattle.pim_net.specs.declared.parts.OutRef.{OutRef}
 use Rattle.pim_bench.proofs.Bounds.{coarse_small}
 
 abbrev ands_in : List Equation → ℕ

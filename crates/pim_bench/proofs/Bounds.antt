@@ -1,9 +1,9 @@
 -- A netlist with few parts needs few cells.
-use Rattle.std.proofs.Common.{◌≡◌, ◌∙◌, ◌+◌, ◌*◌, ◌≤◌, ◌≡◌, ℕ, zero, suc, Bool, true, false, cond, List, [], ◌∷◌, ◌++◌, length, map, fold, refl, sym, ap, arith, count_by, replicate}
+use Rattle.std.proofs.Common.{◌≡◌, ◌∙◌, ◌+◌, ◌*◌, ◌≤◌, ◌≡◌, ℕ, zero, suc, Bool, true, false, List, [], ◌∷◌, ◌++◌, length, fold, refl, arith, replicate}
 use Rattle.std.specs.Prelude.{if◌then◌else◌, slice_index_or}
 use Rattle.std.proofs.lemmas.List.{length-append, length-map, length-replicate, length-set}
 use Rattle.std.proofs.lemmas.List.Sums.{count_by-le-length}
-use Rattle.pim_aig.specs.Flat.{ands, flat}
+use Rattle.pim_aig.specs.Flat.{ands, flat, flattened, output_literal}
 use Rattle.pim_aig.specs.Graph.{AigView}
 use Rattle.pim_aig.specs.declared.literal.Lit.{Lit}
 use Rattle.pim_compile.specs.Networks.{coarse_need}
@@ -73,4 +73,4 @@ made_few g = omega (arith, roots_few g [] g.outputs, count_by-le-length is_made 
 
 pub coarse_small : (n : NetView) (target : Target) → length (flat n).ands ≡ ands n → coarse_need n target ≤ 2 * (length n.inputs + ands n) + length n.outputs + 4
 coarse_small n Magic counted = omega (arith, counted, nors_few (flat n))
-coarse_small n Plim counted = omega (arith, made_few (flat n), length-map n.outputs _)
+coarse_small n Plim counted = omega (arith, made_few (flat n), length-map n.outputs (output_literal (flattened n).lits))

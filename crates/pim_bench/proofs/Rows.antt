@@ -1,5 +1,5 @@
 -- Rows one after another, and how many of them are answered wrongly.
-use Rattle.std.proofs.Common.{◌≡◌, ◌∙◌, ◌+◌, ◌-◌, ◌<◌, ℕ, zero, suc, Bool, true, false, not, List, [], ◌∷◌, cond, refl, sym, ap, ap₂, subst, arith, count_by}
+use Rattle.std.proofs.Common.{◌≡◌, ◌∙◌, ◌+◌, ℕ, zero, suc, Bool, true, false, not, List, [], ◌∷◌, cond, refl, sym, ap, ap₂, arith, count_by}
 use Rattle.std.specs.Prelude.{if◌then◌else◌}
 use Rattle.std.specs.Str.{bytes_eq}
 use Rattle.std.proofs.lemmas.List.Sums.{sum_by-cons}
@@ -96,11 +96,17 @@ module _ (p : ProgramView) where
       turned false = refl
 
 -- all rows
-pub all_wrong : (p : ProgramView) (bits : ℕ) → wrong_in p 262144 (first_row bits) ≡ wrong_of p bits
+pub all_wrong : (p : ProgramView) (bits : ℕ) → 0 + wrong_in p 262144 (first_row bits) ≡ wrong_of p bits
 unfolding wrong_in
-all_wrong p bits = refl
+all_wrong p bits =
+    let same : wrong_in p 262144 (first_row bits) ≡ wrong_of p bits = refl in
+    omega (arith, same)
 
 -- the wrong ones of some rows, told of a program that is the same
 pub wrong_is : (p q : ProgramView) (count : ℕ) (row : RowsView) (told : ℕ) → told ≡ count_by (is_wrong q) (rows_from count row) → q ≡ p → told ≡ wrong_in p count row
 unfolding wrong_in
 wrong_is p q count row told is same = is ∙ ap (λ (x : ProgramView). count_by (is_wrong x) (rows_from count row)) same
+
+pub told_wrong : (p : ProgramView) (count : ℕ) (row : RowsView) → wrong_in p count row ≡ count_by (is_wrong p) (rows_from count row)
+unfolding wrong_in
+told_wrong p count row = refl

@@ -1,5 +1,5 @@
 -- Tiles of rows and of answers.
-use Rattle.std.proofs.Common.{◌≡◌, ◌∙◌, ◌+◌, ◌*◌, ◌<◌, ℕ, Bool, true, false, cond, eqb, List, inl, inr, length, refl, sym, ap, arith}
+use Rattle.std.proofs.Common.{◌≡◌, ◌∙◌, ◌+◌, ◌*◌, ◌<◌, ℕ, Bool, cond, eqb, List, inl, inr, length, sym, ap, arith}
 use Rattle.std.specs.Prelude.{map}
 use Rattle.std.proofs.lemmas.Bool.{eq-eqb, ne_eqb}
 use Rattle.std.proofs.Math.Nat.{eq-or-lt_of_le}
@@ -8,7 +8,7 @@ use Rattle.std.proofs.lemmas.List.FromFn.{length-map-range_with_len}
 use Rattle.pim_io.specs.Bits.{bits_of}
 use Rattle.pim_io.specs.Lanes.{lane}
 use Rattle.pim_isa.specs.Programs.{ProgramView}
-use Rattle.pim_isa.specs.Results.{load, result_of}
+use Rattle.pim_isa.specs.Results.{load}
 use Rattle.pim_isa.specs.Steps.{bit, exec}
 use Rattle.pim_isa.specs.declared.target.Fill.TheVariants.{Zeros}
 use Rattle.pim_lanes.specs.Banks.{BankView, row_of}

@@ -46,7 +46,7 @@ pub(crate) fn count_wrong(alloc: Global, program: &Program, bits: u32) -> Result
 /// A program on its way through the rows, with all that executing some of them takes: a bank, tiles of rows and of results, and
 /// room for the characters of one row.
 #[derive(Debug, Drop)]
-struct Trial<'a> {
+pub(crate) struct Trial<'a> {
     program: &'a Program,
 
     // The rows that are packed next, and those whose sums are compared next.
@@ -73,7 +73,7 @@ impl<'a> Model for Trial<'a> {
 
 impl<'a> Trial<'a> {
     /// A trial of a program that begins with the first row.
-    fn new(alloc: Global, program: &'a Program, bits: u32) -> Result<Trial<'a>, NoMemory>
+    pub(crate) fn new(alloc: Global, program: &'a Program, bits: u32) -> Result<Trial<'a>, NoMemory>
         requires some { 0 < bits }
         requires few { bits ≤ MAX_BITS }
         requires inputs { length program.now.inputs ≡ 2 * bits + 1 }
@@ -96,12 +96,17 @@ impl<'a> Trial<'a> {
     }
 
     /// Executes the next rows together, and tells how many of them are answered wrongly.
-    fn wrong_of_next(&mut self) -> u32
+    pub(crate) fn wrong_of_next(&mut self) -> u32
         ensures wrong { result ≡ count_by (is_wrong self.old.program) (rows_from LANES self.old.row) }
         ensures few { result ≤ LANES }
         ensures after { self.new ≡ record self.old { row = later LANES self.old.row } }
     {
-        pack_rows(&mut self.vectors, &mut self.drawn, &mut self.line, &mut self.sum);
+        pack_rows(
+            &mut self.vectors,
+            &mut self.drawn,
+            &mut self.line,
+            &mut self.sum,
+        );
         load_vectors(&mut self.bank, self.program, Fill::Zeros, &self.vectors);
         self.bank.run(self.program);
         gather_results(&mut self.results, self.program, &self.bank);

@@ -1,13 +1,12 @@
 -- Worked examples of the definitions, by computation: the AND of two inputs in four cells, and the exclusive or in five.
-use Rattle.std.proofs.Common.{◌≡◌, ℕ, Bool, true, false, List, [], ◌∷◌, ◌++◌, map, Some, None, Ok, Err, codes, refl}
+use Rattle.std.proofs.Common.{◌≡◌, ℕ, true, false, List, [], ◌∷◌, Some, None, codes, refl}
 use Rattle.pim_aig.specs.Graph.{AigView}
 use Rattle.pim_aig.specs.declared.graph.And.{And}
 use Rattle.pim_aig.specs.declared.literal.Lit.{Lit}
-use Rattle.pim_isa.specs.Steps.{bit}
 use Rattle.pim_isa.specs.declared.target.Fill.TheVariants.{Zeros, Ones}
 use Rattle.pim_imply.specs.Costs.{impcost, needed_of}
-use Rattle.pim_imply.specs.Gates.{gates, operands, turned}
-use Rattle.pim_imply.specs.Machines.{iexec, iresult_of, istep}
+use Rattle.pim_imply.specs.Gates.{gates, operands}
+use Rattle.pim_imply.specs.Machines.{iresult_of, istep}
 use Rattle.pim_imply.specs.Programs.{ImplyView}
 use Rattle.pim_imply.specs.Schedules.{program_of, schedule}
 use Rattle.pim_imply.specs.Validity.{fault_of}

@@ -20,7 +20,7 @@ use Rattle.pim_text.specs.LineForms.{counted_of}
 use Rattle.pim_text.specs.LineLaws.{ReadLines, LackNewlines}
 use Rattle.pim_text.specs.Text.{counted_text, port_line, port_text, ports_text}
 use Rattle.pim_imply.specs.Text.{imply_text, instrs_text, text as text_of}
-use Rattle.pim_imply.specs.Reading.{Reading, start, empty, begun, after, is_ended, read_from, draft_of}
+use Rattle.pim_imply.specs.Reading.{Reading, start, empty, after, is_ended, read_from, draft_of}
 use Rattle.pim_imply.proofs.TextLemmas.{head_text, instr_of-text, lacks-instr}
 
 -- the bytes from a line on, which begins at this place

@@ -1,20 +1,19 @@
 -- The laws of reading and printing: a program's text is read as it, nothing else is, and a draft has few parts.
-use Rattle.std.proofs.Common.{◌≡◌, ℕ, ◌+◌, ◌*◌, ◌^◌, ◌<◌, ◌≤◌, Bool, true, false, List, [], ◌∷◌, ◌++◌, length, Option, Some, None, Result, Ok, Err, codes, refl, take, ap, sym, ◌∙◌, subst, arith}
+use Rattle.std.proofs.Common.{◌≡◌, ℕ, ◌+◌, ◌*◌, ◌<◌, ◌≤◌, List, [], ◌∷◌, ◌++◌, length, Option, Some, None, Result, Ok, Err, codes, refl, take, ap, sym, ◌∙◌, subst, arith}
 use Rattle.std.specs.Prelude.{◌↔◌, IfOk}
 use Rattle.std.specs.Fmt.{decimal}
-use Rattle.std.specs.List.{AllByRecursion}
 use Rattle.std.proofs.lemmas.List.{length-append}
 use Rattle.pim_io.specs.declared.limits.TheConstants.{MAX_PROGRAM}
 use Rattle.pim_io.specs.Lines.{lines}
-use Rattle.pim_io.specs.Readings.{◌>>=◌, Gives}
+use Rattle.pim_io.specs.Readings.{Gives}
 use Rattle.pim_isa.specs.Sound.{IsProgram}
-use Rattle.pim_isa.specs.declared.draft.TheConstants.{MAX_CELLS, MAX_INSTRS, MAX_PORTS}
+use Rattle.pim_isa.specs.declared.draft.TheConstants.{MAX_INSTRS}
 use Rattle.pim_isa.specs.declared.port.Port.{Port}
 use Rattle.pim_text.specs.LineLaws.{ReadLines, OneLine, ProgramLines, LackNewlines}
 use Rattle.pim_text.specs.Text.{counted_text, port_text, ports_text}
 use Rattle.pim_imply.specs.Programs.{ImplyView, body_of}
 use Rattle.pim_imply.specs.Reading.{draft_of, imply_of, read_from, start, validated, with_fault}
-use Rattle.pim_imply.specs.Spelled.{HasLine, HasText}
+use Rattle.pim_imply.specs.Spelled.{HasText}
 use Rattle.pim_imply.specs.Text.{imply_text, instrs_text, text as text_of}
 use Rattle.pim_imply.specs.Validity.{fault_of}
 use Rattle.pim_imply.specs.declared.fault.ImplyFault.{ImplyFault}

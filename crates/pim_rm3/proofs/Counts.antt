@@ -19,7 +19,7 @@ two : (b : Bool) (i j k h : Instr) → length (cond b (i ∷ j ∷ []) (k ∷ h 
 two true i j k h = refl
 two false i j k h = refl
 
-load_length : (ins : ℕ) (cells : List ℕ) (z : ℕ) (e : Lit) → length (load ins cells z e) ≡ 2
+pub load_length : (ins : ℕ) (cells : List ℕ) (z : ℕ) (e : Lit) → length (load ins cells z e) ≡ 2
 load_length ins cells z e = two (is_inverted e) _ _ _ _
 
 gate_length : (g : AigView) (cells : List ℕ) (z l : ℕ) (over : Option ℕ) (t : Gate) → length (gate_instrs g cells z over l t) ≡ cost_of over t
@@ -32,7 +32,7 @@ gate_length g cells z l None (gate.And x y) =
     omega arith
 gate_length g cells z l (Some c) (gate.And x y) = refl
 
-sum_same : (f h : ℕ → ℕ) → ((x : ℕ) → f x ≡ h x) → (xs : List ℕ) → sum_by f xs ≡ sum_by h xs
+pub sum_same : (f h : ℕ → ℕ) → ((x : ℕ) → f x ≡ h x) → (xs : List ℕ) → sum_by f xs ≡ sum_by h xs
 sum_same f h e [] = refl
 sum_same f h e (x ∷ xs) =
     let a = sum_by-cons f x xs in

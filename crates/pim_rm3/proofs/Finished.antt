@@ -39,24 +39,24 @@ realizes g ports a s laws complete ins outs =
       keeps_others = λ m c h. laws.keeps_others is m c (λ k d l. fits_writes g.inputs a.width (get_or is k d) c (fit k d l) (inr h));
     }
 
-input_cells : (labels : List (List ℕ)) (c : ℕ) → cells_of (input_ports c labels) ≡ range_with_len c (length labels)
+pub input_cells : (labels : List (List ℕ)) (c : ℕ) → cells_of (input_ports c labels) ≡ range_with_len c (length labels)
 input_cells [] c = refl
 input_cells (x ∷ labels) c = ap (λ (xs : List ℕ). c ∷ xs) (input_cells labels (c + 1))
 
-range_within : (n w : ℕ) → n ≤ w → All (λ c. c < w) (range_with_len 0 n)
+pub range_within : (n w : ℕ) → n ≤ w → All (λ c. c < w) (range_with_len 0 n)
 range_within n w h = λ k d l.
     let b : k < n = omega (arith, length-range_with_len 0 n) in
     let e = get_or-range_with_len 0 n k d b in
     omega arith
 
-range_distinct : (n : ℕ) → AllPairs ◌≢◌ (range_with_len 0 n)
+pub range_distinct : (n : ℕ) → AllPairs ◌≢◌ (range_with_len 0 n)
 range_distinct n = λ i j d l h same.
     let b : j < n = omega (arith, length-range_with_len 0 n) in
     let e = get_or-range_with_len 0 n i d (omega arith) in
     let f = get_or-range_with_len 0 n j d b in
     absurd (omega arith)
 
-ports_within : (ins : ℕ) (cells : List ℕ) (w : ℕ) (os : List Lit) (labels : List (List ℕ)) → ((k : ℕ) (d : Lit) → k < length os → output_cell ins cells (get_or os k d) < w) → All (λ c. c < w) (cells_of (output_ports ins cells os labels))
+pub ports_within : (ins : ℕ) (cells : List ℕ) (w : ℕ) (os : List Lit) (labels : List (List ℕ)) → ((k : ℕ) (d : Lit) → k < length os → output_cell ins cells (get_or os k d) < w) → All (λ c. c < w) (cells_of (output_ports ins cells os labels))
 ports_within ins cells w [] labels h = λ k d l. absurd (omega arith)
 ports_within ins cells w (o ∷ os) [] h = λ k d l. absurd (omega arith)
 ports_within ins cells w (o ∷ os) (x ∷ labels) h =

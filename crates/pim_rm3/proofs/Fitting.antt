@@ -68,7 +68,7 @@ none_get o i n e = cc
 some_is : (x i : Instr) → Some x ≡ Some i → x ≡ i
 some_is x i e = cc
 
-fits_operand : (ins : ℕ) (cells : List ℕ) (w z : ℕ) (e : Lit) → (0 < e.0 / 2 → (cell_of ins cells e < w) × (cell_of ins cells e ≢ z)) → FitsOperand w z (operand_of ins cells e)
+pub fits_operand : (ins : ℕ) (cells : List ℕ) (w z : ℕ) (e : Lit) → (0 < e.0 / 2 → (cell_of ins cells e < w) × (cell_of ins cells e ≢ z)) → FitsOperand w z (operand_of ins cells e)
 fits_operand ins cells w z e h = elim (eqb_tells (e.0 / 2) 0) [
   | inl t ↦
       let P : Bool → Type 0 = λ b. FitsOperand w z (cond b (cond (eqb e.0 0) operand.Zero operand.One) (operand.Cell (cell_of ins cells e))) in
@@ -78,7 +78,7 @@ fits_operand ins cells w z e h = elim (eqb_tells (e.0 / 2) 0) [
       subst P (sym f.0) (h (omega (arith, f.1)))
 ]
 
-inverted_some : (e : Lit) → is_inverted e ≡ true → 0 < e.0 / 2
+pub inverted_some : (e : Lit) → is_inverted e ≡ true → 0 < e.0 / 2
 inverted_some e h = grind (arith, nat_tests)
 
 fits_narrow_by : (ins : ℕ) (cells : List ℕ) (f w z : ℕ) (e : Lit) → f ≤ z → z < w → (0 < e.0 / 2 → (cell_of ins cells e < w) × (cell_of ins cells e ≢ z)) → Fits f w (narrow_by ins cells z e)
@@ -100,13 +100,13 @@ fits_narrow ins cells f w z e a b h =
       | inr other ↦ subst P (sym other) (λ some. (h some, λ same. apart_from_own (e.0 / 2) (cell_of ins cells e) z other some same))
     ])
 
-fits_load : (ins : ℕ) (cells : List ℕ) (f w z : ℕ) (e : Lit) → f ≤ z → z < w → (0 < e.0 / 2 → (cell_of ins cells e < w) × (cell_of ins cells e ≢ z)) → All (Fits f w) (load ins cells z e)
+pub fits_load : (ins : ℕ) (cells : List ℕ) (f w z : ℕ) (e : Lit) → f ≤ z → z < w → (0 < e.0 / 2 → (cell_of ins cells e < w) × (cell_of ins cells e ≢ z)) → All (Fits f w) (load ins cells z e)
 fits_load ins cells f w z e a b h = elim (bool_cases (is_inverted e)) [
   | inl inv ↦ subst (All (Fits f w)) (sym (load_is ins cells z e true inv)) (two_fit f w _ _ (a, b, tt, tt) (a, b, tt, h (inverted_some e inv)))
   | inr plain ↦ subst (All (Fits f w)) (sym (load_is ins cells z e false plain)) (two_fit f w _ _ (a, b, tt, tt) (a, b, fits_operand ins cells w z e h, tt))
 ]
 
-fits_set : (f w z : ℕ) (b : Bool) → f ≤ z → z < w → Fits f w (set_to b z)
+pub fits_set : (f w z : ℕ) (b : Bool) → f ≤ z → z < w → Fits f w (set_to b z)
 fits_set f w z true a b = (a, b, tt, tt)
 fits_set f w z false a b = (a, b, tt, tt)
 
@@ -147,7 +147,7 @@ operand_fits g a p e s h child =
           }
     ]
 
-one_fits : (f w : ℕ) (i : Instr) → Fits f w i → All (Fits f w) (i ∷ [])
+pub one_fits : (f w : ℕ) (i : Instr) → Fits f w i → All (Fits f w) (i ∷ [])
 one_fits f w i h = All-cons (Fits f w) i [] h (λ k d l. absurd (omega arith))
 
 gate_fits : (g : AigView) (a : AllotmentView) (p : ℕ) → IsSettled g a → p < length (gates g) → Kind g (get_or (gates g) p 0) → All (Fits g.inputs a.width) (instrs_at g a.cells (get_or (gates g) p 0))
@@ -193,7 +193,7 @@ gate_fits g a p s h (meet even above is) =
           subst Q (sym some.1) (one_fits f w (narrow g.inputs a.cells z (cond (eqb x.0 some.0) y x)) (pick (eqb x.0 some.0) y x R (fits_narrow g.inputs a.cells f w z y lo hi fy.within) (fits_narrow g.inputs a.cells f w z x lo hi fx.within)))
     ])
 
-all_flat : (P : Instr → Type 0) (f : ℕ → List Instr) (xs : List ℕ) → ((k : ℕ) → k < length xs → All P (f (get_or xs k 0))) → All P (flat_map f xs)
+pub all_flat : (P : Instr → Type 0) (f : ℕ → List Instr) (xs : List ℕ) → ((k : ℕ) → k < length xs → All P (f (get_or xs k 0))) → All P (flat_map f xs)
 all_flat P f [] h = λ k d l. absurd (omega arith)
 all_flat P f (x ∷ xs) h = All-append P (f x) (flat_map f xs) (h 0 (omega arith)) (all_flat P f xs (λ k l. h (suc k) (omega arith)))
 

@@ -35,7 +35,7 @@ inverse_reads g l odd =
 abbrev pub ReadsNode : MigView → ℕ → ℕ → Type 0
 ReadsNode g l k = has (kids_of (mig_graph g) l) k ≡ true
 
-vote_node : (g : MigView) (l k : ℕ) → l < 2 * size g → l % 2 ≡ 0 → g.inputs < l / 2 → ReadsOne g.inputs (role_at g l).p (role_at g l).q (role_at g l).z k → ReadsNode g l k
+pub vote_node : (g : MigView) (l k : ℕ) → l < 2 * size g → l % 2 ≡ 0 → g.inputs < l / 2 → ReadsOne g.inputs (role_at g l).p (role_at g l).q (role_at g l).z k → ReadsNode g l k
 vote_node g l k h even above o =
     ap (λ (xs : List ℕ). has xs k) (kids_at g l h ∙ vote_reads g l even above) ∙ of_nodes g.inputs (maj_at g l) k (read_roles g l k o)
 
@@ -152,7 +152,7 @@ roles_have g l k (by_third o) =
     (has_back (gate_read g.inputs r.q) (gate_read g.inputs r.z ++ own_temporary l (temporary r)) (gate_number k)
     (has_front (gate_read g.inputs r.z) (own_temporary l (temporary r)) (gate_number k) (node_has_gate g.inputs r.z k o)))
 
-few_none : (g : MigView) (l k : ℕ) → l < 2 * size g → l % 2 ≡ 0 → l / 2 ≤ g.inputs → ReadsNode g l k → ⊥
+pub few_none : (g : MigView) (l k : ℕ) → l < 2 * size g → l % 2 ≡ 0 → l / 2 ≤ g.inputs → ReadsNode g l k → ⊥
 few_none g l k b even few r =
     let t : eqb (l % 2) 1 ≡ false = grind (arith, nat_tests) in
     let u : nat_le (l / 2) g.inputs ≡ true = grind (arith, nat_tests) in
@@ -161,10 +161,10 @@ few_none g l k b even few r =
     ∙ ap (λ (b : Bool). cond b [] (nodes_read g.inputs (maj_at g l))) u in
     false≢true (sym (ap (λ (xs : List ℕ). has xs k) (kids_at g l b ∙ none)) ∙ r)
 
-odd_is : (g : MigView) (l k : ℕ) → l < 2 * size g → l % 2 ≡ 1 → ReadsNode g l k → IsOf g.inputs (record { 0 = l }) k
+pub odd_is : (g : MigView) (l k : ℕ) → l < 2 * size g → l % 2 ≡ 1 → ReadsNode g l k → IsOf g.inputs (record { 0 = l }) k
 odd_is g l k b odd r = node_of g.inputs (record { 0 = l }) k (sym (ap (λ (xs : List ℕ). has xs k) (kids_at g l b ∙ inverse_reads g l odd)) ∙ r)
 
-odd_or_even : (l : ℕ) → (l % 2 ≡ 1) ⊎ (l % 2 ≡ 0)
+pub odd_or_even : (l : ℕ) → (l % 2 ≡ 1) ⊎ (l % 2 ≡ 0)
 odd_or_even l = elim (bool_cases (eqb (l % 2) 1)) [
   | inl t ↦ inl (grind (arith, nat_tests))
   | inr f ↦ inr (let r : l % 2 < 2 = omega arith in let n : l % 2 ≢ 1 = grind (arith, nat_tests) in omega arith)
@@ -201,3 +201,6 @@ own_by g l e (vote even above is) w = ap (λ (s : Step). has (step_reads g.input
 
 pub reads_own : (g : MigView) (l : ℕ) (e : Lit) → l < 2 * size g → temporary_of (step_of g l) ≡ Some e → has (kids_of (full_graph g) (gate_number l)) (2 * l) ≡ true
 reads_own g l e b w = ap (λ (xs : List ℕ). has xs (2 * l)) (gate_kids g l b) ∙ own_by g l e (step_kind g l) w
+
+pub vote_third : (g : MigView) (l k : ℕ) → l < 2 * size g → l % 2 ≡ 0 → g.inputs < l / 2 → IsOf g.inputs (role_at g l).z k → ReadsNode g l k
+vote_third g l k b even above o = vote_node g l k b even above (by_third o)

@@ -5,7 +5,7 @@ use Rattle.std.proofs.lemmas.Bool.Decides.{nat_tests}
 use Rattle.std.proofs.lemmas.List.{drop_more, get_or-map}
 use Rattle.std.proofs.lemmas.List.FromFn.{length-map-range_with_len}
 use Rattle.pim_aig.specs.Graph.{AigView, nodes}
-use Rattle.pim_graph.specs.Allotments.{IsOver, taken_at}
+use Rattle.pim_graph.specs.Allotments.{AllotmentView, IsAllotment, IsOver, taken_at}
 use Rattle.pim_graph.specs.Graphs.{GraphView, has, kids_of}
 use Rattle.pim_graph.specs.Orders.{order}
 use Rattle.pim_graph.specs.Peaks.{IsPlaced, read_by}
@@ -40,24 +40,24 @@ at_there g xs i all is h =
     let len = ap (λ (ys : List ℕ). length ys) is in
     subst M (sym is) (all i 0 (omega arith))
 
-or_lt : (a b : ℕ) (p q : Bool) → p ≡ nat_lt 0 a → q ≡ nat_lt 0 b → (p || q) ≡ nat_lt 0 (a + b)
+pub or_lt : (a b : ℕ) (p q : Bool) → p ≡ nat_lt 0 a → q ≡ nat_lt 0 b → (p || q) ≡ nat_lt 0 (a + b)
 or_lt a b p q e f = grind (arith, nat_tests)
 
 one_lt : (b : Bool) → b ≡ nat_lt 0 (cond b 1 0)
 one_lt true = refl
 one_lt false = refl
 
-has-occurrences : (xs : List ℕ) (x : ℕ) → has xs x ≡ nat_lt 0 (occurrences xs x)
+pub has-occurrences : (xs : List ℕ) (x : ℕ) → has xs x ≡ nat_lt 0 (occurrences xs x)
 has-occurrences [] x = refl
 has-occurrences (y ∷ ys) x = or_lt (cond (eqb y x) 1 0) (occurrences ys x) (eqb y x) (has ys x) (one_lt (eqb y x)) (has-occurrences ys x)
 
-lt_some : (n : ℕ) → nat_lt 0 n ≡ true → 0 < n
+pub lt_some : (n : ℕ) → nat_lt 0 n ≡ true → 0 < n
 lt_some n h = grind (arith, nat_tests)
 
-lt_none : (n : ℕ) → n ≡ 0 → nat_lt 0 n ≡ false
+pub lt_none : (n : ℕ) → n ≡ 0 → nat_lt 0 n ≡ false
 lt_none n h = grind (arith, nat_tests)
 
-reads_drop : (v : GraphView) (xs : List ℕ) (p x : ℕ) → reads v (drop p xs) x ≤ reads v xs x
+pub reads_drop : (v : GraphView) (xs : List ℕ) (p x : ℕ) → reads v (drop p xs) x ≤ reads v xs x
 reads_drop v [] zero x = omega arith
 reads_drop v [] (suc p) x = omega arith
 reads_drop v (y ∷ ys) zero x = omega arith
@@ -70,18 +70,18 @@ record IsSingle (g : AigView) (l : ℕ) : Type 0 where
   no_root : has (gate_graph g).roots l ≡ false
   once : reads (gate_graph g) (gates g) l ≡ 1
 
-and_both : (a b : Bool) → (a && b) ≡ true → (a ≡ true) × (b ≡ true)
+pub and_both : (a b : Bool) → (a && b) ≡ true → (a ≡ true) × (b ≡ true)
 and_both true b h = (refl, h)
 and_both false b h = absurd (false≢true h)
 
-not_true : (b : Bool) → not b ≡ true → b ≡ false
+pub not_true : (b : Bool) → not b ≡ true → b ≡ false
 not_true true h = absurd (false≢true h)
 not_true false h = refl
 
-is_eq : (a b : ℕ) → eqb a b ≡ true → a ≡ b
+pub is_eq : (a b : ℕ) → eqb a b ≡ true → a ≡ b
 is_eq a b h = grind (arith, nat_tests)
 
-is_lt : (a b : ℕ) → nat_lt a b ≡ true → a < b
+pub is_lt : (a b : ℕ) → nat_lt a b ≡ true → a < b
 is_lt a b h = grind (arith, nat_tests)
 
 single_means : (g : AigView) (l : ℕ) → is_single g l ≡ true → IsSingle g l
@@ -93,7 +93,7 @@ single_means g l h =
     let d = and_both (eqb (l % 2) 0) (nat_lt g.inputs (l / 2)) b.0 in
     record { even = is_eq (l % 2) 0 d.0; above = is_lt g.inputs (l / 2) d.1; no_root = not_true R b.1; once = is_eq (reads (gate_graph g) (gates g) l) 1 a.1 }
 
-some_same : (c d : ℕ) → Some c ≡ Some d → c ≡ d
+pub some_same : (c d : ℕ) → Some c ≡ Some d → c ≡ d
 some_same c d e = cc
 
 none_some : (o : Option ℕ) (c : ℕ) → o ≡ None → o ≡ Some c → ⊥
@@ -179,3 +179,12 @@ over_sound g law all = record {
       let unread : read_by v (drop (p + 1) xs) c ≡ false = law v (drop (p + 1) xs) c ∙ lt_none (reads v (drop (p + 1) xs) c) none in
       ap (λ (b : Bool). b || has v.roots c) unread ∙ s.no_root;
 }
+
+-- an allotment of what is the same
+pub moved : (v w : GraphView) (xs ys : List ℕ) (o u : List (Option ℕ)) (f h : ℕ) (a : AllotmentView) → v ≡ w → xs ≡ ys → o ≡ u → f ≡ h → IsAllotment v xs o f a → IsAllotment w ys u h a
+moved v w xs ys o u f h a p q r s all =
+    let A : GraphView → Type 0 = λ x. IsAllotment x xs o f a in
+    let B : List ℕ → Type 0 = λ x. IsAllotment w x o f a in
+    let C : List (Option ℕ) → Type 0 = λ x. IsAllotment w ys x f a in
+    let D : ℕ → Type 0 = λ x. IsAllotment w ys u x a in
+    subst D s (subst C r (subst B q (subst A p all)))

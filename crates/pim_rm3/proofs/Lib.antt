@@ -13,3 +13,8 @@ pub mod RoleLaws
 pub mod StepLaws
 pub mod FullKids
 pub mod FullOrders
+pub mod FullSound
+pub mod FullPeaks
+pub mod FullValues
+pub mod FullComputes
+pub mod FullPrograms

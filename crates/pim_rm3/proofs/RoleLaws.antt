@@ -102,7 +102,18 @@ least_all m x y z =
     let n = role_cost (least_role m x y z) in
     let P : Role → Type 0 = λ r. n ≤ role_cost r in
     let t = least_is m x y z in
-    All-cons P _ _ t.a (All-cons P _ _ t.b (All-cons P _ _ t.d (All-cons P _ _ t.e (All-cons P _ _ t.f (All-cons P _ _ t.h (no_role n))))))
+    let r1 = role m.x m.y m.z z in
+    let r2 = role m.x m.z m.y y in
+    let r3 = role m.y m.x m.z z in
+    let r4 = role m.y m.z m.x x in
+    let r5 = role m.z m.x m.y y in
+    let r6 = role m.z m.y m.x x in
+    All-cons P r1 (r2 ∷ (r3 ∷ (r4 ∷ (r5 ∷ (r6 ∷ []))))) t.a
+    (All-cons P r2 (r3 ∷ (r4 ∷ (r5 ∷ (r6 ∷ [])))) t.b
+    (All-cons P r3 (r4 ∷ (r5 ∷ (r6 ∷ []))) t.d
+    (All-cons P r4 (r5 ∷ (r6 ∷ [])) t.e
+    (All-cons P r5 (r6 ∷ []) t.f
+    (All-cons P r6 [] t.h (no_role n))))))
 
 -- the first two in turned roles
 abbrev turned : Role → Role

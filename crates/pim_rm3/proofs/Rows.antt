@@ -16,10 +16,10 @@ abbrev pub lit_bit : ℕ → List ℕ → List Bool → Lit → Bool
 lit_bit ins cells m e =
     cond (eqb (e.0 / 2) 0) (eqb (e.0 % 2) 1) (cond (eqb (e.0 % 2) 1) (not (bit m (cell_of ins cells e))) (bit m (cell_of ins cells e)))
 
-at_target : (m : List Bool) (p q : Operand) (z : ℕ) → z < length m → bit (step m (Rm3 p q z)) z ≡ majority (value m p) (not (value m q)) (bit m z)
+pub at_target : (m : List Bool) (p q : Operand) (z : ℕ) → z < length m → bit (step m (Rm3 p q z)) z ≡ majority (value m p) (not (value m q)) (bit m z)
 at_target m p q z h = get_or-set_same m z (majority (value m p) (not (value m q)) (bit m z)) false h
 
-off_target : (m : List Bool) (p q : Operand) (z c : ℕ) → c ≢ z → bit (step m (Rm3 p q z)) c ≡ bit m c
+pub off_target : (m : List Bool) (p q : Operand) (z c : ℕ) → c ≢ z → bit (step m (Rm3 p q z)) c ≡ bit m c
 off_target m p q z c ne = get_or-set_other m z c (majority (value m p) (not (value m q)) (bit m z)) false ne
 
 clears : (b : Bool) → majority false (not true) b ≡ false
@@ -69,7 +69,7 @@ bool_cases true = inl refl
 bool_cases false = inr refl
 
 -- the value of a plain literal as an operand
-operand_value : (ins : ℕ) (cells : List ℕ) (m : List Bool) (e : Lit) → is_inverted e ≡ false → value m (operand_of ins cells e) ≡ lit_bit ins cells m e
+pub operand_value : (ins : ℕ) (cells : List ℕ) (m : List Bool) (e : Lit) → is_inverted e ≡ false → value m (operand_of ins cells e) ≡ lit_bit ins cells m e
 operand_value ins cells m e plain = elim (eqb_tells (e.0 / 2) 0) [
   | inl t ↦
       elim (eqb_tells e.0 0) [
@@ -79,7 +79,7 @@ operand_value ins cells m e plain = elim (eqb_tells (e.0 / 2) 0) [
   | inr f ↦ let even : eqb (e.0 % 2) 1 ≡ false = grind (arith, nat_tests) in rw (f.0, even) refl
 ]
 
-lit_inverted : (ins : ℕ) (cells : List ℕ) (m : List Bool) (e : Lit) → is_inverted e ≡ true → lit_bit ins cells m e ≡ not (bit m (cell_of ins cells e))
+pub lit_inverted : (ins : ℕ) (cells : List ℕ) (m : List Bool) (e : Lit) → is_inverted e ≡ true → lit_bit ins cells m e ≡ not (bit m (cell_of ins cells e))
 lit_inverted ins cells m e inv =
     let some : eqb (e.0 / 2) 0 ≡ false = grind (arith, nat_tests) in
     let odd : eqb (e.0 % 2) 1 ≡ true = grind (arith, nat_tests) in

@@ -196,7 +196,7 @@ read_plain g (gate.Not m) y h = with_and_plain g [] m y (λ n. absurd (false≢t
 read_plain g (gate.And x z) y h = with_and_plain g (with_and g [] x) z y (λ n. with_and_plain g [] x y (λ k. absurd (false≢true k)) n) h
 
 -- no input is a root
-root_gate : (ins : ℕ) (os : List Lit) (roots : List ℕ) (y : ℕ) → (has roots y ≡ true → is_input ins (record { 0 = y }) ≡ false) → has (fold (with_root ins) roots os) y ≡ true → is_input ins (record { 0 = y }) ≡ false
+pub root_gate : (ins : ℕ) (os : List Lit) (roots : List ℕ) (y : ℕ) → (has roots y ≡ true → is_input ins (record { 0 = y }) ≡ false) → has (fold (with_root ins) roots os) y ≡ true → is_input ins (record { 0 = y }) ≡ false
 root_gate ins [] roots y old h = old h
 root_gate ins (o ∷ os) roots y old h =
     root_gate ins os (with_root ins roots o) y (λ n. elim (bool_cases (is_input ins o)) [
@@ -212,7 +212,7 @@ root_gate ins (o ∷ os) roots y old h =
           ]
     ]) h
 
-input_is : (ins : ℕ) (l : ℕ) → 0 < l / 2 → l % 2 ≡ 0 → l / 2 ≤ ins → is_input ins (record { 0 = l }) ≡ true
+pub input_is : (ins : ℕ) (l : ℕ) → 0 < l / 2 → l % 2 ≡ 0 → l / 2 ≤ ins → is_input ins (record { 0 = l }) ≡ true
 input_is ins l some even few =
     let a : eqb (l % 2) 0 ≡ true = grind (arith, nat_tests) in
     let b : nat_lt 0 (l / 2) ≡ true = grind (arith, nat_tests) in
@@ -410,7 +410,7 @@ roots_have ins [] roots k d h j = absurd (omega arith)
 roots_have ins (o ∷ os) roots zero d h j = root_keeps ins os (with_root ins roots o) o.0 (root_new ins roots o j)
 roots_have ins (o ∷ os) roots (suc k) d h j = roots_have ins os (with_root ins roots o) k d (omega arith) j
 
-le_same : (n : ℕ) → n ≤ n
+pub le_same : (n : ℕ) → n ≤ n
 le_same n = omega arith
 
 pub record IsInput (ins : ℕ) (o : Lit) : Type 0 where

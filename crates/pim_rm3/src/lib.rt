@@ -14,6 +14,8 @@ mod refusal;
 mod role;
 mod schedule;
 mod smart_schedule;
+#[cfg(test)]
+mod smart_tests;
 mod step;
 mod temporaries;
 #[cfg(test)]

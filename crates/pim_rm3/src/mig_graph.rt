@@ -1,6 +1,6 @@
 ghost use Rattle.std.specs.Prelude.{◌≡◌, ◌*◌, ◌^◌, ◌<◌, ◌++◌, [], map, IfOk, OnOk};
 ghost use Rattle.std.specs.List.{range_with_len};
-ghost use Rattle.pim_mig.specs.Graph.{size};
+ghost use Rattle.pim_mig.specs.Graph.{IsMig, size};
 ghost use Rattle.pim_rm3.specs.Steps.{gate_reads, mig_graph, node_read};
 
 use crate::gate_graph::put_root;
@@ -15,6 +15,7 @@ use std::alloc::Global;
 pub(crate) fn literals(mig: &Mig) -> u32
     ensures count { result ≡ 2 * size mig.now }
     ensures few { result < 2 ^ 24 }
+    ensures sound { IsMig mig.now }
 {
     2 * (1 + mig.inputs() + mig.nodes().len() as u32)
 }

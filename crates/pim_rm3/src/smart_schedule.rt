@@ -19,7 +19,7 @@ ghost use Rattle.pim_rm3.specs.Temporaries.{full_graph, full_order, full_over};
 
 use crate::mig_graph::{literals, mig_graph};
 use crate::ports::{add_inputs, add_outputs};
-use crate::step::{step_cost, steps};
+use crate::step::{step_at, step_cost, steps};
 use crate::temporaries::{full_graph, full_order, full_over};
 use crate::votes::{add_votes, gate_cells};
 use crate::{SmartFault, Step};
@@ -83,6 +83,8 @@ fn planned(alloc: Global, mig: &Mig) -> Result<Plan, NoMemory>
     ensures order { IfOk result (λ plan. plan.order.items ≡ mig_gates mig.now) }
     ensures complete { OnOk result ((gate : ℕ) → IsReached (mig_graph mig.now) gate → has (mig_gates mig.now) gate ≡ true) }
     ensures placed { OnOk result (IsPlaced (mig_graph mig.now) (mig_gates mig.now)) }
+    ensures needed { OnOk result ((p : ℕ) → p < length (mig_gates mig.now) →
+        needed (mig_graph mig.now) (drop (p + 1) (mig_gates mig.now)) (slice_index (mig_gates mig.now) p) ≡ true) }
     ensures reached { OnOk result (All (IsReached (mig_graph mig.now)) (mig_gates mig.now)) }
     ensures there { OnOk result (All (λ l. l < 2 * size mig.now) (mig_gates mig.now)) }
     ensures few { OnOk result (length (mig_gates mig.now) ≤ 2 * size mig.now) }
@@ -98,6 +100,7 @@ fn planned(alloc: Global, mig: &Mig) -> Result<Plan, NoMemory>
     let order = order(alloc, &graph)?;
     let steps = steps(alloc, mig, &graph, &order)?;
     let allotment = allotted(alloc, mig, &graph, &order, &steps)?;
+    let _inputs = mig.inputs();
     Ok(Plan {
         order,
         steps,
@@ -119,6 +122,8 @@ fn allotted(
     requires placed { IsPlaced (mig_graph mig.now) (mig_gates mig.now) }
     requires needed { (p : ℕ) → p < length (mig_gates mig.now) →
         needed (mig_graph mig.now) (drop (p + 1) (mig_gates mig.now)) (slice_index (mig_gates mig.now) p) ≡ true }
+    ensures needed { OnOk result ((p : ℕ) → p < length (mig_gates mig.now) →
+        needed (mig_graph mig.now) (drop (p + 1) (mig_gates mig.now)) (slice_index (mig_gates mig.now) p) ≡ true) }
     ensures full { OnOk result (IsPlaced (full_graph mig.now) (full_order mig.now)) }
     ensures sound { OnOk result (IsOver (full_graph mig.now) (full_order mig.now) (full_over mig.now)) }
     ensures allotment { IfOk result (λ a. IsAllotment (full_graph mig.now) (full_order mig.now) (full_over mig.now) mig.now.inputs a) }
@@ -128,7 +133,8 @@ fn allotted(
     let full = full_graph(alloc, mig, graph, steps)?;
     let gates = full_order(alloc, mig, steps, order)?;
     let over = full_over(alloc, mig, steps, order)?;
-    allot(alloc, &full, &gates, mig.inputs(), &over)
+    let allotment = allot(alloc, &full, &gates, mig.inputs(), &over)?;
+    Ok(allotment)
 }
 
 /// The draft of a planned schedule.
@@ -167,9 +173,8 @@ fn total(mig: &Mig, steps: &[Step], order: &[u32]) -> u32
 {
     let mut cycles = 0;
     for literal in order {
-        cycles += step_cost(steps[*literal as usize]);
+        cycles += step_cost(step_at(mig, steps, *literal));
     }
-    let _nodes = mig.nodes();
     cycles
 }
 

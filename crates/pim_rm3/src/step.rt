@@ -2,6 +2,7 @@ ghost use Rattle.std.specs.Prelude.{◌≡◌, ◌*◌, ◌/◌, ◌^◌, ◌<�
 ghost use Rattle.std.specs.List.{range_with_len};
 ghost use Rattle.pim_graph.specs.Readers.{CountsReads};
 ghost use Rattle.pim_mig.specs.Graph.{size};
+ghost use Rattle.pim_rm3.specs.inner.Operands.{StepsBelow};
 ghost use Rattle.pim_rm3.specs.Steps.{can_be_taken, maj_at, mig_gates, mig_graph, step_cost, step_of};
 
 use crate::Role;
@@ -93,6 +94,18 @@ pub(crate) fn steps(
         steps.push(step_of(mig, graph, &readers, literal))?;
     }
     Ok(steps)
+}
+
+/// How the gate of a literal is computed, of all steps.
+pub(crate) fn step_at(mig: &Mig, steps: &[Step], literal: u32) -> Step
+    requires steps { steps.now ≡ map (step_of mig.now) (range_with_len 0 (2 * size mig.now)) }
+    requires there { literal < 2 * size mig.now }
+    ensures step { result ≡ step_of mig.now literal }
+    ensures below { StepsBelow literal result }
+    ensures few { 2 * size mig.now < 2 ^ 24 }
+{
+    let _count = literals(mig);
+    steps[literal as usize]
 }
 
 /// How many cycles a step takes.

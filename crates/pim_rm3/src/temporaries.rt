@@ -1,13 +1,14 @@
-ghost use Rattle.std.specs.Prelude.{◌≡◌, ◌*◌, ◌^◌, ◌<◌, ◌≤◌, ◌++◌, [], All, flat_map, length, map, IfOk, OnOk, vec_len, Option, ℕ, List};
+ghost use Rattle.std.specs.Prelude.{◌≡◌, ◌*◌, ◌^◌, ◌<◌, ◌≤◌, ◌++◌, ◌∷◌, [], All, flat_map, length, map, IfOk, OnOk, vec_len, Option, ℕ, List};
 ghost use Rattle.std.specs.List.{range_with_len};
 ghost use Rattle.pim_mig.specs.Graph.{size};
 ghost use Rattle.pim_rm3.specs.Steps.{mig_gates, mig_graph, step_of};
 ghost use Rattle.pim_rm3.specs.inner.Operands.{StepsBelow};
-ghost use Rattle.pim_rm3.specs.Temporaries.{all_reads, full_graph, full_order, full_over, gate_number, gate_read, own_temporary, step_reads, step_takes, takes_of, temporary_of, temporary_reads, with_temporary};
+ghost use Rattle.pim_rm3.specs.Temporaries.{all_reads, full_graph, full_order, full_over, gate_number, gate_read, own_temporary, step_reads, step_takes, takes_of, temporary_of, temporary_reads, temporary_takes, with_temporary};
 
 use crate::Step;
 use crate::mig_graph::literals;
 use crate::role::temporary;
+use crate::step::step_at;
 use pim_aig::Lit;
 use pim_graph::Graph;
 use pim_io::NoMemory;
@@ -100,16 +101,15 @@ fn put_all_reads(
 ) -> Result<(), NoMemory>
     requires steps { steps.now ≡ map (step_of mig.now) (range_with_len 0 (2 * size mig.now)) }
     requires there { number < 2 * (2 * size mig.now) }
-    ensures list { OnOk result (gates.new.items ≡ all_reads mig.now number) }
-    ensures below { OnOk result (All (λ c. c < number) gates.new.items) }
-    ensures few { OnOk result (vec_len gates.new ≤ 4) }
+    ensures { OnOk result (gates.new.items ≡ all_reads mig.now number) }
 {
     let literal = number / 2;
-    let step = steps[literal as usize];
+    let inputs = mig.inputs();
+    let step = step_at(mig, steps, literal);
     if number % 2 == 1 {
-        put_step_reads(gates, mig.inputs(), literal, step)
+        put_step_reads(gates, inputs, literal, step)
     } else {
-        put_temporary_reads(gates, mig.inputs(), literal, step)
+        put_temporary_reads(gates, inputs, literal, step)
     }
 }
 
@@ -162,9 +162,9 @@ pub(crate) fn full_order(
     ensures { IfOk result (λ gates. gates.items ≡ full_order mig.now) }
 {
     let mut gates = Vec::new(alloc);
-    let _nodes = mig.nodes();
     for literal in order {
-        put_temporary(&mut gates, *literal, temporary_of(steps[*literal as usize]))?;
+        let step = step_at(mig, steps, *literal);
+        put_temporary(&mut gates, *literal, temporary_of(step))?;
         gates.push(2 * *literal + 1)?;
     }
     Ok(gates)
@@ -182,6 +182,26 @@ fn step_takes(step: Step, literal: u32) -> Option<u32>
     }
 }
 
+/// Puts what a step and its temporary take over at the end of a list.
+fn put_takes(over: &mut Vec<Option<u32>>, step: Step, literal: u32) -> Result<(), NoMemory>
+    requires there { literal < 2 ^ 24 }
+    requires below { StepsBelow literal step }
+    ensures { OnOk result (over.new.items ≡ over.old.items ++ (temporary_takes (temporary_of step) ++ step_takes step ∷ [])) }
+{
+    let takes = step_takes(step, literal);
+    match temporary_of(step) {
+        Some(_) => {
+            over.push(None)?;
+            over.push(takes)?;
+            Ok(())
+        }
+        None => {
+            over.push(takes)?;
+            Ok(())
+        }
+    }
+}
+
 /// For each gate of the full order the gate whose cell it takes over, if it takes one over.
 pub(crate) fn full_over(
     alloc: Global,
@@ -195,13 +215,8 @@ pub(crate) fn full_over(
     ensures { IfOk result (λ over. over.items ≡ full_over mig.now) }
 {
     let mut over = Vec::new(alloc);
-    let _nodes = mig.nodes();
     for literal in order {
-        let step = steps[*literal as usize];
-        if temporary_of(step).is_some() {
-            over.push(None)?;
-        }
-        over.push(step_takes(step, *literal))?;
+        put_takes(&mut over, step_at(mig, steps, *literal), *literal)?;
     }
     Ok(over)
 }

@@ -50,7 +50,7 @@ fn scheduled(alloc: Global, aig: &Aig, budget: u32) -> Result<Result<Program, Re
 }
 
 /// Whether the instruction at a place is this one.
-fn is_at(program: &Program, place: usize, p: Operand, q: Operand, z: u32) -> bool {
+pub(crate) fn is_at(program: &Program, place: usize, p: Operand, q: Operand, z: u32) -> bool {
     match program.instrs().get(place) {
         Some(
             Instr::Rm3 {

@@ -8,6 +8,7 @@ ghost use Rattle.pim_rm3.specs.inner.Operands.{IsBelow, StepsBelow};
 
 use crate::loads::{add_load, cell_of, is_inverted, operand_of, rm3, set_to};
 use crate::role::is_plain;
+use crate::step::step_at;
 use crate::temporaries::temporary_of;
 use crate::{Role, Step};
 use pim_aig::Lit;
@@ -136,6 +137,7 @@ fn add_gate(
     requires held { length held.now ≡ 2 * (2 * size mig.now) }
     requires there { literal < 2 * size mig.now }
     requires step { step ≡ step_of mig.now literal }
+    requires below { StepsBelow literal step }
     ensures { OnOk result (draft.new ≡ record draft.old { instrs = draft.old.instrs ++ smart_instrs mig.now held.now literal }) }
 {
     let inputs = mig.inputs();
@@ -162,7 +164,8 @@ pub(crate) fn add_votes(
     ensures { OnOk result (draft.new ≡ record draft.old { instrs = draft.old.instrs ++ smart_schedule mig.now held.now }) }
 {
     for literal in order {
-        add_gate(draft, mig, cells, held, steps[*literal as usize], *literal)?;
+        let step = step_at(mig, steps, *literal);
+        add_gate(draft, mig, cells, held, step, *literal)?;
     }
     Ok(())
 }

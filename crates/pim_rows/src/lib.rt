@@ -12,6 +12,8 @@ mod compile;
 #[cfg(test)]
 mod debug;
 #[cfg(test)]
+mod imply;
+#[cfg(test)]
 mod memory;
 #[cfg(test)]
 mod outside;

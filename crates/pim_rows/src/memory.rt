@@ -3,6 +3,7 @@
 use crate::case::{
     AND_NETLIST, AND_PROGRAM, BINARY_AND, Ending, FIVE, XOR, XOR_PROGRAM, call, gives, stops,
 };
+use crate::imply::{IMPLIED_AND, implyrun};
 use crate::run::{repeated, run_on};
 use crate::share::{IN_TURNS, TWO_ANDS, behind_an_and, share};
 use pim_top::Status;
@@ -58,4 +59,29 @@ fn of_programs_that_share_a_row(rt: HostRuntime) -> Result<(), Fail> {
     let programs = behind_an_and(alloc, AND_PROGRAM)?;
     let ending = share(alloc, "10", &programs, IN_TURNS)?;
     gives_or_wants_memory(&rt, alloc, &ending, TWO_ANDS)
+}
+
+#[test]
+fn of_an_implication(rt: HostRuntime) -> Result<(), Fail> {
+    let ending = call(rt.alloc(), &["imply", "--cells", "4"], AND_NETLIST, 7)?;
+    gives_or_wants_memory(&rt, rt.alloc(), &ending, IMPLIED_AND)
+}
+
+#[test]
+fn of_rows_of_implications(rt: HostRuntime) -> Result<(), Fail> {
+    let alloc = rt.alloc();
+    let vectors = repeated(
+        alloc,
+        b"11
+",
+        4_097,
+    )?;
+    let results = repeated(
+        alloc,
+        b"1
+",
+        4_097,
+    )?;
+    let ending = implyrun(alloc, "zeros", IMPLIED_AND, &vectors, 9_000)?;
+    gives_or_wants_memory(&rt, alloc, &ending, &results)
 }

@@ -1,4 +1,4 @@
-//! `list`, `explain`, `asm` and `convert`: the AND in each of its spellings, trees, faults with their notes, and sources and sinks that fail.
+//! `list`, `explain`, `asm` and `convert`: the AND in each spelling, trees, faults with their notes, and sources and sinks that fail.
 mod faults;
 mod outside;
 mod spellings;

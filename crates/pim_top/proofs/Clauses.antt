@@ -4,11 +4,12 @@ use Rattle.std.specs.Prelude.{OnOk}
 use Rattle.pim_io.specs.Outside.{Rose, Told}
 use Rattle.pim_words.specs.Reading.{command_said, is_usage}
 use Rattle.pim_words.specs.declared.command.Command.{Command}
-use Rattle.pim_words.specs.declared.command.Command.TheVariants.{Debug, Run}
+use Rattle.pim_words.specs.declared.command.Command.TheVariants.{Debug, Implyrun, Run}
 use Rattle.pim_top.specs.Calls.{Ends, FileIsFine, HasWritten, IsCalm, IsDecided, IsDone, IsFileDecided, IsIdle, IsObeyed, IsRefused, Obeys}
 use Rattle.pim_top.specs.Reads.{IsApart, OfBytes, OfInput, Tells, executes_rows, reads, streams}
 use Rattle.pim_top.specs.Statuses.{answer_status, refusal_status}
 use Rattle.pim_top.specs.Streams.{IsUntouched, Seen}
+use Rattle.pim_top.specs.commands.Implyrun.{implyrun_of}
 use Rattle.pim_top.specs.commands.Run.{run_of}
 use Rattle.pim_top.specs.declared.refusal.Origin.TheVariants as origin
 use Rattle.pim_top.specs.declared.refusal.Refusal.{Refusal}
@@ -34,6 +35,10 @@ ends-done (Run fill) seen y h = (
   rows-done (run_of fill) seen y (HasWritten (Run fill)) (λ file input before after text e fits d. record { text = text; took = e; given = inr (fits, d) }) h,
   (h.loaded.read.steady, h.walk.input, h.walk.output),
 )
+ends-done (Implyrun fill) seen y h = (
+  rows-done (implyrun_of fill) seen y (HasWritten (Implyrun fill)) (λ file input before after text e fits d. record { text = text; took = e; given = inr (fits, d) }) h,
+  (h.loaded.read.steady, h.walk.input, h.walk.output),
+)
 ends-done (Debug fill) seen y h = (
   debug-done fill seen y (HasWritten (Debug fill)) (λ file input before after text e fits d. record { text = text; took = e; given = inr (fits, d) }) h,
   debug-steady fill seen y h,
@@ -45,26 +50,31 @@ ends-done c seen y h = (
 
 ends-usage : (c : Command) (seen : Seen) (r : Refusal) → Ends {Y = Unit {0}} c seen (Err r) → refusal_status r ≡ status.Usage → ⊥
 ends-usage (Run fill) seen r h e = rows-usage (run_of fill) seen r h e
+ends-usage (Implyrun fill) seen r h e = rows-usage (implyrun_of fill) seen r h e
 ends-usage (Debug fill) seen r h e = debug-usage fill seen r h e
 ends-usage c seen r h e = whole-usage c seen r h e
 
 ends-read : (c : Command) (seen : Seen) (r : Refusal) → Ends {Y = Unit {0}} c seen (Err r) → refusal_status r ≡ status.ReadFault → Rose seen.program.faults seen.program.faults_now ⊎ Rose seen.input.faults seen.input.faults_now
 ends-read (Run fill) seen r h e = rows-read (run_of fill) seen r h e
+ends-read (Implyrun fill) seen r h e = rows-read (implyrun_of fill) seen r h e
 ends-read (Debug fill) seen r h e = debug-read fill seen r h e
 ends-read c seen r h e = whole-read c seen r h e
 
 ends-write : (c : Command) (seen : Seen) (r : Refusal) → Ends {Y = Unit {0}} c seen (Err r) → refusal_status r ≡ status.WriteFault → Rose seen.output.faults seen.output.faults_now
 ends-write (Run fill) seen r h e = rows-write (run_of fill) seen r h e
+ends-write (Implyrun fill) seen r h e = rows-write (implyrun_of fill) seen r h e
 ends-write (Debug fill) seen r h e = debug-write fill seen r h e
 ends-write c seen r h e = whole-write c seen r h e
 
 ends-nothing : (c : Command) (seen : Seen) (r : Refusal) → streams c ≡ false → Ends {Y = Unit {0}} c seen (Err r) → (refusal_status r ≡ status.WriteFault → ⊥) → IsUntouched seen.output
 ends-nothing (Run fill) seen r not h n = absurd (let z : ⊥ = cc in z)
+ends-nothing (Implyrun fill) seen r not h n = absurd (let z : ⊥ = cc in z)
 ends-nothing (Debug fill) seen r not h n = absurd (let z : ⊥ = cc in z)
 ends-nothing c seen r not h n = whole-nothing c seen r h n
 
 ends-memory : (c : Command) (seen : Seen) (r : Refusal) → executes_rows c ≡ true → Ends {Y = Unit {0}} c seen (Err r) → refusal_status r ≡ status.NoMemory → IsUntouched seen.input × IsUntouched seen.output
 ends-memory (Run fill) seen r rows h e = rows-memory (run_of fill) seen r h e
+ends-memory (Implyrun fill) seen r rows h e = rows-memory (implyrun_of fill) seen r h e
 ends-memory c seen r rows h e = absurd (let z : ⊥ = cc in z)
 
 -- the program file is fine, or decides by itself, or memory ran out
@@ -73,6 +83,12 @@ FileSays c file s = FileIsFine c file ⊎ (IsFileDecided c file s ⊎ (s ≡ sta
 
 ends-file : (c : Command) (seen : Seen) (file : List ℕ) (result : Result (Unit {0}) Refusal) → Tells (reads c origin.Program) seen.program file → (Rose seen.program.faults seen.program.faults_now → ⊥) → Ends c seen result → FileSays c file (answer_status result)
 ends-file (Run fill) seen file result t calm h = elim (rows-file (run_of fill) seen file result t calm h) [
+  | inl fine ↦ inl fine
+  | inr (inl (inl long)) ↦ inr (inl (record { refusal = refusal.TooLong origin.Program; decided = long.0; ends = long.1 }))
+  | inr (inl (inr judged)) ↦ inr (inl (record { refusal = refusal.Judged judged.0; decided = (judged.1, judged.2); ends = judged.3 }))
+  | inr (inr wanting) ↦ inr (inr wanting)
+]
+ends-file (Implyrun fill) seen file result t calm h = elim (rows-file (implyrun_of fill) seen file result t calm h) [
   | inl fine ↦ inl fine
   | inr (inl (inl long)) ↦ inr (inl (record { refusal = refusal.TooLong origin.Program; decided = long.0; ends = long.1 }))
   | inr (inl (inr judged)) ↦ inr (inl (record { refusal = refusal.Judged judged.0; decided = (judged.1, judged.2); ends = judged.3 }))
@@ -96,6 +112,12 @@ Say c file bytes s = IsDecided c file bytes s ⊎ (s ≡ status.NoMemory)
 
 ends-decided : (c : Command) (seen : Seen) (file bytes : List ℕ) (result : Result (Unit {0}) Refusal) → Tells (reads c origin.Program) seen.program file → Tells (reads c origin.Input) seen.input bytes → IsCalm seen → Ends c seen result → Say c file bytes (answer_status result)
 ends-decided (Run fill) seen file bytes result t u calm h = elim (rows-decided (run_of fill) seen file bytes result t u calm h) [
+  | inl (inl long) ↦ inl (record { answer = Err (refusal.TooLong origin.Program); decided = inl long.0; ends = long.1 })
+  | inl (inr judged) ↦ inl (record { answer = Err (refusal.Judged judged.0); decided = inl (judged.1, judged.2); ends = judged.3 })
+  | inr (inl late) ↦ inl (record { answer = late.0; decided = inr (late.1, late.2); ends = late.3 })
+  | inr (inr wanting) ↦ inr wanting
+]
+ends-decided (Implyrun fill) seen file bytes result t u calm h = elim (rows-decided (implyrun_of fill) seen file bytes result t u calm h) [
   | inl (inl long) ↦ inl (record { answer = Err (refusal.TooLong origin.Program); decided = inl long.0; ends = long.1 })
   | inl (inr judged) ↦ inl (record { answer = Err (refusal.Judged judged.0); decided = inl (judged.1, judged.2); ends = judged.3 })
   | inr (inl late) ↦ inl (record { answer = late.0; decided = inr (late.1, late.2); ends = late.3 })

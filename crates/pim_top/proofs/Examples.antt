@@ -1,5 +1,5 @@
 -- Worked examples of a call's definitions, by computation: the note of each refusal with a place, and a run with a wrong line.
-use Rattle.std.proofs.Common.{◌≡◌, ℕ, List, [], ◌∷◌, ◌++◌, Some, codes, refl}
+use Rattle.std.proofs.Common.{◌≡◌, ℕ, List, [], ◌∷◌, ◌++◌, Some, Ok, Err, codes, refl}
 use Rattle.std.specs.Fmt.{digits}
 use Rattle.pim_aiger.specs.declared.fault.AigerFault.TheVariants as aiger
 use Rattle.pim_asm.specs.declared.fault.AsmFault.TheVariants as asm
@@ -8,15 +8,23 @@ use Rattle.pim_blif.specs.declared.fault.BlifFault.TheVariants as blif
 use Rattle.pim_compile.specs.declared.refusal.Refusal.TheVariants as compiler
 use Rattle.pim_file.specs.declared.fault.FileFault.TheVariants as file
 use Rattle.pim_io.specs.Bits.{line_of}
+use Rattle.pim_io.specs.Words.{number_of}
 use Rattle.pim_isa.specs.declared.invalid.Invalid.TheVariants as invalid
+use Rattle.pim_imply.specs.declared.fault.ImplyFault.TheVariants as imply_file
+use Rattle.pim_imply.specs.declared.invalid.ImplyInvalid.TheVariants as imply_invalid
+use Rattle.pim_imply.specs.declared.refusal.ImplyRefusal.TheVariants as imply
+use Rattle.pim_life.specs.declared.tree_fault.TreeFault.TheVariants as tree
 use Rattle.pim_net.specs.declared.fault.NetFault.TheVariants as net
 use Rattle.pim_net.specs.declared.kind.Kind.TheVariants as kind
 use Rattle.pim_prove.specs.declared.fault.ProveFault.TheVariants as prove
 use Rattle.pim_prove.specs.declared.unset.Unset.TheVariants as unset
+use Rattle.pim_share.specs.declared.fault.ManyFault.TheVariants as many
+use Rattle.pim_share.specs.declared.fault.ShareFault.TheVariants as share
 use Rattle.pim_top.specs.Judged.{fitting_lines, input_refusal, judged_within}
 use Rattle.pim_top.specs.Notes.{refusal_note}
 use Rattle.pim_top.specs.Statuses.{refusal_status}
 use Rattle.pim_top.specs.Walks.{tiles_of}
+use Rattle.pim_top.specs.commands.Share.{turns_of}
 use Rattle.pim_top.specs.declared.judgement.Judgement.{Judgement}
 use Rattle.pim_top.specs.declared.judgement.Judgement.TheVariants as judgement
 use Rattle.pim_top.specs.declared.netlist.NetlistFault.TheVariants.{Aiger, Blif}
@@ -162,6 +170,67 @@ no_vector_note : judged (judgement.Unequal [] 2) ≡ codes "pim: unequal  output
 unfolding digits
 no_vector_note = refl
 
+tree_note : judged (judgement.Tree tree.NotMagic) ≡ codes "pim: bad input: program is not magic\n"
+tree_note = refl
+
+part_line_note : judged (judgement.Parts (many.Part 1 (file.Line 3))) ≡ codes "pim: bad input: part 1 program line 3\n"
+unfolding digits
+part_line_note = refl
+
+part_cut_note : judged (judgement.Parts (many.Part 0 file.Truncated)) ≡ codes "pim: bad input: part 0 program truncated\n"
+unfolding digits
+part_cut_note = refl
+
+part_target_note : judged (judgement.Parts (many.Part 12 (file.Invalid (invalid.TargetRead 3)))) ≡ codes "pim: bad input: part 12 program instruction 3 reads its target\n"
+unfolding digits
+part_target_note = refl
+
+part_cells_note : judged (judgement.Parts (many.Part 1 file.TooLarge)) ≡ codes "pim: too large: cells\n"
+part_cells_note = refl
+
+other_target_note : judged (judgement.Share (share.OtherTarget 1)) ≡ codes "pim: bad input: part 1 other target\n"
+unfolding digits
+other_target_note = refl
+
+turn_note : judged (judgement.Turn 3) ≡ codes "pim: bad input: turn line 3\n"
+unfolding digits
+turn_note = refl
+
+third_turn_note : judged (judgement.Share (share.Turn 2)) ≡ codes "pim: bad input: turn line 3\n"
+unfolding digits
+third_turn_note = refl
+
+missing_note : judged (judgement.Share (share.Missing 1)) ≡ codes "pim: bad input: turns missing part 1\n"
+unfolding digits
+missing_note = refl
+
+shared_cells_note : judged (judgement.Share (share.TooFewCells 10)) ≡ codes "pim: too few cells: needed 10\n"
+unfolding digits
+shared_cells_note = refl
+
+imply_line_note : judged (judgement.ImplyFile (imply_file.Line 4)) ≡ codes "pim: bad input: imply line 4\n"
+unfolding digits
+imply_line_note = refl
+
+imply_cut_note : judged (judgement.ImplyFile imply_file.Truncated) ≡ codes "pim: bad input: imply truncated\n"
+imply_cut_note = refl
+
+imply_port_note : judged (judgement.ImplyFile (imply_file.Invalid (imply_invalid.Port 1))) ≡ codes "pim: bad input: imply port 1\n"
+unfolding digits
+imply_port_note = refl
+
+imply_range_note : judged (judgement.ImplyFile (imply_file.Invalid (imply_invalid.CellRange 0))) ≡ codes "pim: bad input: imply instruction 0 cell range\n"
+unfolding digits
+imply_range_note = refl
+
+imply_same_note : judged (judgement.ImplyFile (imply_file.Invalid (imply_invalid.SameCell 5))) ≡ codes "pim: bad input: imply instruction 5 same cell\n"
+unfolding digits
+imply_same_note = refl
+
+imply_cells_note : judged (judgement.Imply (imply.TooFewCells 4)) ≡ codes "pim: too few cells: needed 4\n"
+unfolding digits
+imply_cells_note = refl
+
 -- ---- statuses
 too_large : refusal_status (refusal.Judged (judgement.File file.TooLarge)) ≡ status.TooLarge
 too_large = refl
@@ -192,3 +261,12 @@ short_piece = refl
 
 long_piece : judged_within 6 1 (codes "01\n110\n") ≡ codes "01" ∷ codes "110" ∷ []
 long_piece = refl
+
+-- ---- turns: a carriage return before a newline is no part of the line, and the last line stands as it is
+three_turns : turns_of (codes "0\r\n01\n2") ≡ Ok (0 ∷ 1 ∷ 2 ∷ [])
+unfolding number_of
+three_turns = refl
+
+no_second_turn : turns_of (codes "0\n1 2\n3") ≡ Err (judgement.Turn 2)
+unfolding number_of
+no_second_turn = refl

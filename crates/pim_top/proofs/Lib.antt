@@ -10,5 +10,6 @@ pub mod ComparedNets
 pub mod StatusKinds
 pub mod Wholes
 pub mod RowsEnds
+pub mod RowsFine
 pub mod Clauses
 pub mod SpacedLabels

@@ -12,6 +12,10 @@ use Rattle.pim_debug.specs.declared.fault.DebugFault.{DebugFault}
 use Rattle.pim_debug.specs.declared.fault.DebugFault.TheVariants as debug
 use Rattle.pim_file.specs.declared.fault.FileFault.{FileFault}
 use Rattle.pim_file.specs.declared.fault.FileFault.TheVariants as file
+use Rattle.pim_imply.specs.declared.fault.ImplyFault.{ImplyFault}
+use Rattle.pim_imply.specs.declared.fault.ImplyFault.TheVariants as imply_file
+use Rattle.pim_imply.specs.declared.refusal.ImplyRefusal.{ImplyRefusal}
+use Rattle.pim_imply.specs.declared.refusal.ImplyRefusal.TheVariants as imply
 use Rattle.pim_life.specs.declared.tree_fault.TreeFault.{TreeFault}
 use Rattle.pim_life.specs.declared.tree_fault.TreeFault.TheVariants as tree
 use Rattle.pim_net.specs.declared.fault.NetFault.{NetFault}
@@ -22,7 +26,7 @@ use Rattle.pim_share.specs.declared.fault.ManyFault.{ManyFault}
 use Rattle.pim_share.specs.declared.fault.ManyFault.TheVariants as many
 use Rattle.pim_share.specs.declared.fault.ShareFault.{ShareFault}
 use Rattle.pim_share.specs.declared.fault.ShareFault.TheVariants as share
-use Rattle.pim_top.specs.Statuses.{aiger_status, asm_status, blif_status, compiler_status, debug_status, file_status, judgement_status, many_status, net_status, netlist_status, prove_status, refusal_status, share_status, tree_status}
+use Rattle.pim_top.specs.Statuses.{aiger_status, asm_status, blif_status, compiler_status, debug_status, file_status, imply_file_status, imply_status, judgement_status, many_status, net_status, netlist_status, prove_status, refusal_status, share_status, tree_status}
 use Rattle.pim_top.specs.declared.judgement.Judgement.{Judgement}
 use Rattle.pim_top.specs.declared.judgement.Judgement.TheVariants as judgement
 use Rattle.pim_top.specs.declared.netlist.NetlistFault.{NetlistFault}
@@ -85,6 +89,16 @@ tree-kind : (f : TreeFault) → IsOfBytes (tree_status f)
 tree-kind tree.NotMagic = tt
 tree-kind tree.NoMemory = tt
 
+imply-kind : (r : ImplyRefusal) → IsOfBytes (imply_status r)
+imply-kind (imply.TooFewCells needed) = tt
+imply-kind imply.TooLarge = tt
+imply-kind imply.NoMemory = tt
+
+imply-file-kind : (f : ImplyFault) → IsOfBytes (imply_file_status f)
+imply-file-kind imply_file.TooLarge = tt
+imply-file-kind imply_file.NoMemory = tt
+imply-file-kind f = tt
+
 many-kind : (f : ManyFault) → IsOfBytes (many_status f)
 many-kind (many.Part part f) = file-kind f
 many-kind many.NoMemory = tt
@@ -108,6 +122,8 @@ judgement-kind (judgement.Assembly f) = asm-kind f
 judgement-kind (judgement.Prove f) = prove-kind f
 judgement-kind (judgement.Unequal vector output) = tt
 judgement-kind (judgement.Tree f) = tree-kind f
+judgement-kind (judgement.Imply r) = imply-kind r
+judgement-kind (judgement.ImplyFile f) = imply-file-kind f
 judgement-kind (judgement.Parts f) = many-kind f
 judgement-kind (judgement.Turn n) = tt
 judgement-kind (judgement.Share f) = share-kind f

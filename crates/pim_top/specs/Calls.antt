@@ -3,7 +3,7 @@ use Rattle.std.specs.Prelude.{◌≡◌, ◌⊎◌, ℕ, true, false, List, ◌+
 use Rattle.pim_io.specs.Outside.{Rose, Told, TookAll, TookFirst}
 use Rattle.pim_words.specs.Reading.{command_said, is_usage}
 use Rattle.pim_words.specs.declared.command.Command.{Command}
-use Rattle.pim_words.specs.declared.command.Command.TheVariants.{Debug, Run}
+use Rattle.pim_words.specs.declared.command.Command.TheVariants.{Debug, Implyrun, Run}
 use Rattle.pim_top.specs.Answers.{FilePasses}
 use Rattle.pim_top.specs.Decides.{Decides, FileDecides}
 use Rattle.pim_top.specs.Notes.{note}
@@ -13,6 +13,7 @@ use Rattle.pim_top.specs.Statuses.{answer_status, refusal_status}
 use Rattle.pim_top.specs.Streams.{IsUntouched, Seen, Stream}
 use Rattle.pim_top.specs.Wholes.{WholeEnds}
 use Rattle.pim_top.specs.commands.Debug.{DebugEnds}
+use Rattle.pim_top.specs.commands.Implyrun.{implyrun_of}
 use Rattle.pim_top.specs.commands.Run.{run_of}
 use Rattle.pim_top.specs.declared.refusal.Origin.TheVariants.{Program}
 use Rattle.pim_top.specs.declared.refusal.Refusal.{Refusal}
@@ -22,6 +23,7 @@ use Rattle.pim_top.specs.declared.status.Status.{Status}
 -- how a command ends
 abbrev pub Ends : {Y : Type 0} → Command → Seen → Result Y Refusal → Type 0
 Ends (Run fill) seen result = RowsEnd (run_of fill) seen result
+Ends (Implyrun fill) seen result = RowsEnd (implyrun_of fill) seen result
 Ends (Debug fill) seen result = DebugEnds fill seen result
 Ends command seen result = WholeEnds command seen result
 

@@ -2,12 +2,13 @@
 use Rattle.std.specs.Prelude.{◌≡◌, ◌⊎◌, ℕ, List, Result, Ok, Err}
 use Rattle.pim_batch.specs.Runners.{Runner}
 use Rattle.pim_words.specs.declared.command.Command.{Command}
-use Rattle.pim_words.specs.declared.command.Command.TheVariants.{Debug, Run}
+use Rattle.pim_words.specs.declared.command.Command.TheVariants.{Debug, Implyrun, Run}
 use Rattle.pim_top.specs.Answers.{Answers, FilePasses, FileRefused}
 use Rattle.pim_top.specs.Judged.{input_refusal}
 use Rattle.pim_top.specs.Reads.{IsOver, IsWithin, reads}
 use Rattle.pim_top.specs.Walks.{ran}
 use Rattle.pim_top.specs.commands.Debug.{DebugDecides}
+use Rattle.pim_top.specs.commands.Implyrun.{implyrun_of}
 use Rattle.pim_top.specs.commands.Run.{run_of}
 use Rattle.pim_top.specs.declared.judgement.Judgement.{Judgement}
 use Rattle.pim_top.specs.declared.refusal.Origin.TheVariants.{Input, Program}
@@ -36,6 +37,7 @@ pub record RowsDecide (load : List ℕ → Result Runner Judgement) (file input 
 -- the same of a command of any kind
 abbrev pub LateDecides : Command → List ℕ → List ℕ → Result (List ℕ) Refusal → Type 0
 LateDecides (Run fill) file input answer = RowsDecide (run_of fill) file input answer
+LateDecides (Implyrun fill) file input answer = RowsDecide (implyrun_of fill) file input answer
 LateDecides (Debug fill) file input answer = DebugDecides fill file input answer
 LateDecides command file input answer = FilePasses command file × InputDecides command file input answer
 

@@ -14,6 +14,12 @@ use Rattle.pim_file.specs.declared.fault.FileFault.{FileFault}
 use Rattle.pim_file.specs.declared.fault.FileFault.TheVariants as file
 use Rattle.pim_isa.specs.declared.invalid.Invalid.{Invalid}
 use Rattle.pim_isa.specs.declared.invalid.Invalid.TheVariants as invalid
+use Rattle.pim_imply.specs.declared.fault.ImplyFault.{ImplyFault}
+use Rattle.pim_imply.specs.declared.fault.ImplyFault.TheVariants as imply_file
+use Rattle.pim_imply.specs.declared.invalid.ImplyInvalid.{ImplyInvalid}
+use Rattle.pim_imply.specs.declared.invalid.ImplyInvalid.TheVariants as imply_invalid
+use Rattle.pim_imply.specs.declared.refusal.ImplyRefusal.{ImplyRefusal}
+use Rattle.pim_imply.specs.declared.refusal.ImplyRefusal.TheVariants as imply
 use Rattle.pim_life.specs.declared.tree_fault.TreeFault.{TreeFault}
 use Rattle.pim_life.specs.declared.tree_fault.TreeFault.TheVariants as tree
 use Rattle.pim_net.specs.declared.fault.NetFault.{NetFault}
@@ -165,6 +171,26 @@ abbrev pub tree_text : TreeFault → List ℕ
 tree_text tree.NotMagic = bad (codes "program is not magic")
 tree_text tree.NoMemory = wanting
 
+-- why a netlist is not compiled to `false` and `imp`
+abbrev pub imply_text : ImplyRefusal → List ℕ
+imply_text (imply.TooFewCells needed) = codes "too few cells: needed " ++ decimal needed
+imply_text imply.TooLarge = large (codes "nodes")
+imply_text imply.NoMemory = wanting
+
+-- why a program of `false` and `imp` is not valid
+abbrev pub imply_invalid_text : ImplyInvalid → List ℕ
+imply_invalid_text (imply_invalid.Port k) = bad (codes "imply port " ++ decimal k)
+imply_invalid_text (imply_invalid.CellRange k) = placed None (codes "imply instruction ") k (codes " cell range")
+imply_invalid_text (imply_invalid.SameCell k) = placed None (codes "imply instruction ") k (codes " same cell")
+
+-- why bytes are no program of `false` and `imp`
+abbrev pub imply_file_text : ImplyFault → List ℕ
+imply_file_text (imply_file.Line n) = bad (codes "imply line " ++ decimal n)
+imply_file_text (imply_file.Invalid fault) = imply_invalid_text fault
+imply_file_text imply_file.TooLarge = large (codes "cells")
+imply_file_text imply_file.Truncated = bad (codes "imply truncated")
+imply_file_text imply_file.NoMemory = wanting
+
 -- why bytes are no program files one after another
 abbrev pub many_text : ManyFault → List ℕ
 many_text (many.Part part fault) = file_text (Some part) fault
@@ -176,7 +202,7 @@ turn_text line = bad (codes "turn line " ++ decimal line)
 
 -- why programs don't share a row; a turn has a line for itself, and the first line has the number 1
 abbrev pub share_text : ShareFault → List ℕ
-share_text (share.OtherTarget part) = bad (codes "part " ++ (decimal part ++ codes " other target"))
+share_text (share.OtherTarget part) = bad (part_words (Some part) ++ codes "other target")
 share_text (share.TooFewCells needed) = codes "too few cells: needed " ++ decimal needed
 share_text (share.Turn turn) = turn_text (turn + 1)
 share_text (share.Missing part) = bad (codes "turns missing part " ++ decimal part)
@@ -203,6 +229,8 @@ judgement_text (judgement.Assembly fault) = asm_text fault
 judgement_text (judgement.Prove fault) = prove_text fault
 judgement_text (judgement.Unequal vector output) = unequal_text vector output
 judgement_text (judgement.Tree fault) = tree_text fault
+judgement_text (judgement.Imply refusal) = imply_text refusal
+judgement_text (judgement.ImplyFile fault) = imply_file_text fault
 judgement_text (judgement.Parts fault) = many_text fault
 judgement_text (judgement.Turn n) = turn_text n
 judgement_text (judgement.Share fault) = share_text fault

@@ -39,11 +39,13 @@ reads (Bench bits) Input = None
 abbrev pub streams : Command → Bool
 streams (Run fill) = true
 streams (Debug fill) = true
+streams (Implyrun fill) = true
 streams command = false
 
 -- the command executes rows, all of whose memory it takes before it reads the first of them
 abbrev pub executes_rows : Command → Bool
 executes_rows (Run fill) = true
+executes_rows (Implyrun fill) = true
 executes_rows command = false
 
 -- the source of this origin

@@ -12,6 +12,10 @@ use Rattle.pim_debug.specs.declared.fault.DebugFault.{DebugFault}
 use Rattle.pim_debug.specs.declared.fault.DebugFault.TheVariants as debug
 use Rattle.pim_file.specs.declared.fault.FileFault.{FileFault}
 use Rattle.pim_file.specs.declared.fault.FileFault.TheVariants as file
+use Rattle.pim_imply.specs.declared.fault.ImplyFault.{ImplyFault}
+use Rattle.pim_imply.specs.declared.fault.ImplyFault.TheVariants as imply_file
+use Rattle.pim_imply.specs.declared.refusal.ImplyRefusal.{ImplyRefusal}
+use Rattle.pim_imply.specs.declared.refusal.ImplyRefusal.TheVariants as imply
 use Rattle.pim_life.specs.declared.tree_fault.TreeFault.{TreeFault}
 use Rattle.pim_life.specs.declared.tree_fault.TreeFault.TheVariants as tree
 use Rattle.pim_net.specs.declared.fault.NetFault.{NetFault}
@@ -97,6 +101,18 @@ abbrev pub tree_status : TreeFault → Status
 tree_status tree.NotMagic = status.BadInput
 tree_status tree.NoMemory = status.NoMemory
 
+-- too few cells have a status of their own, too many nodes are too large
+abbrev pub imply_status : ImplyRefusal → Status
+imply_status (imply.TooFewCells needed) = status.TooFewCells
+imply_status imply.TooLarge = status.TooLarge
+imply_status imply.NoMemory = status.NoMemory
+
+-- a fault of a program of `false` and `imp` is a bad input, but too many cells are too large
+abbrev pub imply_file_status : ImplyFault → Status
+imply_file_status imply_file.TooLarge = status.TooLarge
+imply_file_status imply_file.NoMemory = status.NoMemory
+imply_file_status fault = status.BadInput
+
 -- a piece of a file that is no program has the status of its fault
 abbrev pub many_status : ManyFault → Status
 many_status (many.Part part fault) = file_status fault
@@ -124,6 +140,8 @@ judgement_status (judgement.Assembly fault) = asm_status fault
 judgement_status (judgement.Prove fault) = prove_status fault
 judgement_status (judgement.Unequal vector output) = status.Unequal
 judgement_status (judgement.Tree fault) = tree_status fault
+judgement_status (judgement.Imply refusal) = imply_status refusal
+judgement_status (judgement.ImplyFile fault) = imply_file_status fault
 judgement_status (judgement.Parts fault) = many_status fault
 judgement_status (judgement.Turn n) = status.BadInput
 judgement_status (judgement.Share fault) = share_status fault

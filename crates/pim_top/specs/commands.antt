@@ -1,8 +1,11 @@
 pub mod Asm
+pub mod Bench
 pub mod Compile
 pub mod Convert
 pub mod Debug
 pub mod Explain
+pub mod Imply
+pub mod Implyrun
 pub mod List
 pub mod Prove
 pub mod Run

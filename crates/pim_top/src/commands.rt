@@ -1,9 +1,12 @@
 //! The commands, one file each.
 pub mod asm;
+pub mod bench;
 pub mod compile;
 pub mod convert;
 pub mod debug;
 pub mod explain;
+pub mod imply;
+pub mod implyrun;
 pub mod list;
 pub mod prove;
 pub mod run;

@@ -1,6 +1,6 @@
 //! Why bytes are refused, by what they say alone.
 ghost use Rattle.std.specs.Prelude.{◌≡◌};
-ghost use Rattle.pim_top.specs.Statuses.{aiger_status, asm_status, blif_status, compiler_status, debug_status, file_status, judgement_status, many_status, net_status, netlist_status, prove_status, share_status, tree_status};
+ghost use Rattle.pim_top.specs.Statuses.{aiger_status, asm_status, blif_status, compiler_status, debug_status, file_status, imply_file_status, imply_status, judgement_status, many_status, net_status, netlist_status, prove_status, share_status, tree_status};
 ghost use Rattle.pim_top.specs.declared.judgement.Judgement.TheVariants as judgements;
 
 use crate::Status;
@@ -11,6 +11,7 @@ use pim_asm::AsmFault;
 use pim_blif::BlifFault;
 use pim_debug::DebugFault;
 use pim_file::FileFault;
+use pim_imply::{ImplyFault, ImplyRefusal};
 use pim_io::NoMemory;
 use pim_life::TreeFault;
 use pim_net::NetFault;
@@ -34,6 +35,10 @@ pub enum Judgement {
     Unequal { vector: VectorText, output: u32 },
     /// The program's NORs are not explained as a graph.
     Tree(TreeFault),
+    /// The netlist is not compiled to `false` and `imp`.
+    Imply(ImplyRefusal),
+    /// The bytes are no program of `false` and `imp`.
+    ImplyFile(ImplyFault),
     /// The bytes are no program files one after another.
     Parts(ManyFault),
     /// The line of this number, from 1, is no number of a turn.
@@ -71,6 +76,8 @@ impl Judgement {
             Judgement::Prove(fault) => prove_status(*fault),
             Judgement::Unequal { .. } => Status::Unequal,
             Judgement::Tree(fault) => tree_status(*fault),
+            Judgement::Imply(refusal) => imply_status(*refusal),
+            Judgement::ImplyFile(fault) => imply_file_status(*fault),
             Judgement::Parts(fault) => many_status(*fault),
             Judgement::Turn(_) => Status::BadInput,
             Judgement::Share(fault) => share_status(*fault),
@@ -176,6 +183,28 @@ fn tree_status(fault: TreeFault) -> Status
     match fault {
         TreeFault::NotMagic => Status::BadInput,
         TreeFault::NoMemory => Status::NoMemory,
+    }
+}
+
+/// The status of a refusal of the compiler to `false` and `imp`.
+fn imply_status(refusal: ImplyRefusal) -> Status
+    ensures { result ≡ imply_status refusal }
+{
+    match refusal {
+        ImplyRefusal::TooFewCells { .. } => Status::TooFewCells,
+        ImplyRefusal::TooLarge => Status::TooLarge,
+        ImplyRefusal::NoMemory => Status::NoMemory,
+    }
+}
+
+/// The status of the fault of a program of `false` and `imp`.
+fn imply_file_status(fault: ImplyFault) -> Status
+    ensures { result ≡ imply_file_status fault }
+{
+    match fault {
+        ImplyFault::TooLarge => Status::TooLarge,
+        ImplyFault::NoMemory => Status::NoMemory,
+        _ => Status::BadInput,
     }
 }
 

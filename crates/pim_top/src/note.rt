@@ -2,7 +2,7 @@
 ghost use Rattle.std.specs.Prelude.{◌≡◌, ◌++◌, OnOk, codes, decimal};
 ghost use Rattle.pim_io.specs.Outside.{Wrote};
 ghost use Rattle.pim_top.specs.Calls.{IsNoted};
-ghost use Rattle.pim_top.specs.Notes.{aiger_text, asm_text, bad, blif_line, blif_text, compiler_text, debug_line, debug_text, file_text, instruction_text, invalid_text, judgement_text, kind_word, large, many_text, net_text, note, origin_word, part_words, placed, prove_text, refusal_text, share_text, spaced, tree_text, turn_text, unequal_text, unset_text};
+ghost use Rattle.pim_top.specs.Notes.{aiger_text, asm_text, bad, blif_line, blif_text, compiler_text, debug_line, debug_text, file_text, imply_file_text, imply_invalid_text, imply_text, instruction_text, invalid_text, judgement_text, kind_word, large, many_text, net_text, note, origin_word, part_words, placed, prove_text, refusal_text, share_text, spaced, tree_text, turn_text, unequal_text, unset_text};
 ghost use Rattle.pim_top.specs.Streams.{stream};
 ghost use Rattle.pim_top.specs.inner.Writing.{WroteLine};
 
@@ -16,6 +16,7 @@ use pim_asm::AsmFault;
 use pim_blif::BlifFault;
 use pim_debug::DebugFault;
 use pim_file::FileFault;
+use pim_imply::{ImplyFault, ImplyInvalid, ImplyRefusal};
 use pim_io::{Sink, SinkFault, tell_writes, write_all, write_pieces};
 use pim_isa::Invalid;
 use pim_life::TreeFault;
@@ -61,6 +62,8 @@ fn write_judgement<E: Sink>(notes: &mut E, judgement: &Judgement) -> Result<(), 
         Judgement::Prove(fault) => write_prove(notes, *fault),
         Judgement::Unequal { vector, output } => write_unequal(notes, vector, *output),
         Judgement::Tree(fault) => write_tree(notes, *fault),
+        Judgement::Imply(refusal) => write_imply(notes, *refusal),
+        Judgement::ImplyFile(fault) => write_imply_file(notes, *fault),
         Judgement::Parts(fault) => write_many(notes, *fault),
         Judgement::Turn(line) => write_turn(notes, *line as u64),
         Judgement::Share(fault) => write_share(notes, *fault),
@@ -297,6 +300,44 @@ fn write_tree<E: Sink>(notes: &mut E, fault: TreeFault) -> Result<(), SinkFault>
     match fault {
         TreeFault::NotMagic => write_bad(notes, b"program is not magic"),
         TreeFault::NoMemory => write_text(notes, b"no memory"),
+    }
+}
+
+/// Writes why a netlist is not compiled to `false` and `imp`.
+fn write_imply<E: Sink>(notes: &mut E, refusal: ImplyRefusal) -> Result<(), SinkFault>
+    ensures { WroteLine E.taken E.faults notes.old notes.new (imply_text refusal) result }
+{
+    match refusal {
+        ImplyRefusal::TooFewCells { needed } => {
+            write_number(notes, b"too few cells: needed ", needed)
+        }
+        ImplyRefusal::TooLarge => write_large(notes, b"nodes"),
+        ImplyRefusal::NoMemory => write_text(notes, b"no memory"),
+    }
+}
+
+/// Writes the fault of a program of `false` and `imp`.
+fn write_imply_file<E: Sink>(notes: &mut E, fault: ImplyFault) -> Result<(), SinkFault>
+    ensures { WroteLine E.taken E.faults notes.old notes.new (imply_file_text fault) result }
+{
+    match fault {
+        ImplyFault::Line(line) => write_bad_number(notes, b"imply line ", line),
+        ImplyFault::Invalid(fault) => write_imply_invalid(notes, fault),
+        ImplyFault::TooLarge => write_large(notes, b"cells"),
+        ImplyFault::Truncated => write_bad(notes, b"imply truncated"),
+        ImplyFault::NoMemory => write_text(notes, b"no memory"),
+    }
+}
+
+/// Writes why a program of `false` and `imp` is not valid, with the instruction or the port.
+fn write_imply_invalid<E: Sink>(notes: &mut E, fault: ImplyInvalid) -> Result<(), SinkFault>
+    ensures { WroteLine E.taken E.faults notes.old notes.new (imply_invalid_text fault) result }
+{
+    let text = b"imply instruction ";
+    match fault {
+        ImplyInvalid::Port(k) => write_bad_number(notes, b"imply port ", k),
+        ImplyInvalid::CellRange(k) => write_placed(notes, None, text, k, b" cell range"),
+        ImplyInvalid::SameCell(k) => write_placed(notes, None, text, k, b" same cell"),
     }
 }
 

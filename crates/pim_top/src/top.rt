@@ -15,10 +15,13 @@ ghost use Rattle.pim_top.specs.inner.Faultless.{IsComplete};
 
 use crate::Status;
 use crate::commands::asm::Asm;
+use crate::commands::bench::Bench;
 use crate::commands::compile::Compile;
 use crate::commands::convert::Convert;
 use crate::commands::debug::debug;
 use crate::commands::explain::Explain;
+use crate::commands::imply::Imply;
+use crate::commands::implyrun::implyrun;
 use crate::commands::list;
 use crate::commands::prove::Prove;
 use crate::commands::run::run;
@@ -170,8 +173,10 @@ fn execute<P: Source, S: Source, K: Sink>(
         Command::Asm => write_text(alloc, &Asm, program, input, output),
         Command::Debug { fill } => debug(alloc, fill, program, input, output),
         Command::Convert { form } => write_text(alloc, &Convert { form }, program, input, output),
+        Command::Imply { cells } => write_text(alloc, &Imply { cells }, program, input, output),
+        Command::Implyrun { fill } => implyrun(alloc, fill, program, input, output),
         Command::Share { cells } => write_text(alloc, &Share { cells }, program, input, output),
-        _ => Err(Refusal::NoMemory),
+        Command::Bench { bits } => write_text(alloc, &Bench { bits }, program, input, output),
     }
 }
 

@@ -3,9 +3,10 @@ use Rattle.std.specs.Prelude.{◌≡◌, ◌⊎◌, ◌≤◌, ℕ, List, Result
 use Rattle.pim_aig.specs.Flat.{ands}
 use Rattle.pim_aig.specs.declared.graph.TheConstants.{MAX_ANDS}
 use Rattle.pim_compile.specs.Computes.{Computes}
-use Rattle.pim_compile.specs.Networks.{TakesCycles, coarse_need, need}
+use Rattle.pim_compile.specs.Cycles.{IsQuick, TakesCycles}
+use Rattle.pim_compile.specs.Networks.{coarse_need, need}
 use Rattle.pim_compile.specs.Refusals.{IsAccepted, IsCoarse, IsRefusal}
-use Rattle.pim_compile.specs.Targets.{OnPlim}
+use Rattle.pim_compile.specs.Targets.{OnMagic, OnPlim}
 use Rattle.pim_compile.specs.declared.compiling.Level.{Level}
 use Rattle.pim_compile.specs.declared.compiling.Level.TheVariants as efforts
 use Rattle.pim_compile.specs.declared.refusal.Refusal.{Refusal}
@@ -33,7 +34,9 @@ machine_of targets.Plim = machines.Plim
 
 -- the effort that a word of `--level` names
 abbrev pub level_of : LevelWord → Level
-level_of level = efforts.Zero
+level_of levels.Zero = efforts.Zero
+level_of levels.One = efforts.One
+level_of levels.Two = efforts.Two
 
 -- what a budget says with which the netlist was compiled: for MAGIC at level 0 it is at least the need
 abbrev pub WasEnough : TargetWord → LevelWord → ℕ → NetView → Type 0
@@ -50,8 +53,8 @@ abbrev pub IsRefusedFor : TargetWord → ℕ → NetView → Refusal → Type 0
 IsRefusedFor target budget net refusal = IsRefusal net (machine_of target) budget refusal × IsCoarse net (machine_of target) budget refusal
 
 -- the written bytes are the text of a program for the target that computes the netlist of the bytes, from every earlier content of
--- the other cells; it names no cell beyond the budget and primes every NOR target, or takes the cycles of the level for PLiM; the
--- budget was enough
+-- the other cells; it names no cell beyond the budget, primes every NOR target, takes the cycles of the level for PLiM, and for MAGIC
+-- few where the budget has a cell for each gate; the budget was enough
 pub record Compiled (target : TargetWord) (level : LevelWord) (budget : ℕ) (bytes written : List ℕ) : Type 0 where
   pub net : NetView
   pub program : ProgramView
@@ -61,7 +64,8 @@ pub record Compiled (target : TargetWord) (level : LevelWord) (budget : ℕ) (by
   pub is_text : written ≡ text program
   pub computes : Computes program net
   pub primed : IsPrimed program.instrs
-  pub cycles : OnPlim (machine_of target) (TakesCycles (level_of level) program net)
+  pub cycles : OnPlim (machine_of target) (TakesCycles (level_of level) net budget program)
+  pub quick : OnMagic (machine_of target) (IsQuick (level_of level) net budget program)
   pub is_target : program.target ≡ machine_of target
   pub within : program.cells ≤ budget
   pub enough : WasEnough target level budget net

@@ -24,8 +24,8 @@ explained false program = Ok (explanation program)
 
 -- the same of what a program file gives, or why it is refused
 abbrev pub explained_by : Bool → Result ProgramView Judgement → Result (List ℕ) Judgement
-explained_by tree (Ok program) = explained tree program
-explained_by tree (Err j) = Err j
+explained_by asked (Ok program) = explained asked program
+explained_by asked (Err j) = Err j
 
 -- the same of the bytes of a program file
 abbrev pub explain_of : Bool → List ℕ → Result (List ℕ) Judgement

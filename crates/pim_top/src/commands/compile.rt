@@ -87,6 +87,8 @@ fn level_of(word: LevelWord) -> Level
     ensures { result ≡ level_of word }
 {
     match word {
-        LevelWord::Zero | LevelWord::One | LevelWord::Two => Level::Zero,
+        LevelWord::Zero => Level::Zero,
+        LevelWord::One => Level::One,
+        LevelWord::Two => Level::Two,
     }
 }

@@ -7,7 +7,7 @@ use Rattle.pim_isa.specs.Results.{result_of}
 use Rattle.pim_isa.specs.declared.target.Fill.TheVariants.{Zeros}
 use Rattle.pim_bench.specs.declared.trial.TheConstants.{LANES}
 use Rattle.pim_bench.proofs.Digits.{row_line_fits, row_sum_long}
-use Rattle.pim_bench.proofs.Rows.{compared, later-bits, later-more, later-none, none_wrong, wrong_in}
+use Rattle.pim_bench.proofs.Rows.{compared, later-bits, later-more, later-none, none_wrong, told_wrong, wrong_in}
 use Rattle.pim_bench.proofs.Tiles.{vector_long}
 use Rattle.pim_bench.proofs.trial.compare_rows.Goals as goal
 
@@ -51,4 +51,4 @@ loop-lane-preserved c =
 pub returns-clause-wrong : goal.returns-clause-wrong
 returns-clause-wrong c = λ p answers.
     let none : LANES - c.loop-lane.lane ≡ 0 = omega (arith, c.loop-lane-test.false) in
-    omega (arith, c.loop-lane.invariant.wrong p answers, none_wrong p (LANES - c.loop-lane.lane) c.loop-lane.rows none)
+    omega (arith, c.loop-lane.invariant.wrong p answers, none_wrong p (LANES - c.loop-lane.lane) c.loop-lane.rows none, told_wrong p LANES c.args.rows.now)

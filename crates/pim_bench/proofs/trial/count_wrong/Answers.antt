@@ -1,7 +1,6 @@
-use Rattle.std.proofs.Common.{◌≡◌, ◌∙◌, ◌+◌, ◌-◌, ◌*◌, ℕ, ap, arith, sym}
+use Rattle.std.proofs.Common.{◌≡◌, ◌∙◌, ◌+◌, ◌-◌, ◌*◌, ℕ, ap, arith}
 use Rattle.pim_adder.specs.Drawn.{RowsView}
 use Rattle.pim_isa.specs.Programs.{ProgramView}
-use Rattle.pim_bench.specs.Trials.{wrong_of}
 use Rattle.pim_bench.specs.declared.trial.TheConstants.{LANES, ROWS}
 use Rattle.pim_bench.specs.inner.Executed.{TrialView, later}
 use Rattle.pim_bench.proofs.Rows.{all_wrong, none_wrong, together_wrong, wrong_in, wrong_is}
@@ -9,7 +8,7 @@ use Rattle.pim_bench.proofs.trial.count_wrong.Goals as goal
 
 pub loop-k-init : goal.loop-k-init
 loop-k-init c = record {
-  wrong = ap (λ (t : TrialView). wrong_in c.args.program.now 262144 t.row) c.in_ok-trial.ensures ∙ all_wrong c.args.program.now c.args.bits;
+  wrong = ap (λ (t : TrialView). 0 + wrong_in c.args.program.now 262144 t.row) c.in_ok-trial.ensures ∙ all_wrong c.args.program.now c.args.bits;
   few = omega arith;
   program = ap (λ (t : TrialView). t.program) c.in_ok-trial.ensures;
 }

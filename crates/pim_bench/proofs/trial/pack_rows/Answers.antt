@@ -1,6 +1,6 @@
 use Rattle.std.proofs.Common.{◌≡◌, ◌∙◌, ◌+◌, ◌*◌, ap, arith, length, refl, subst, sym}
 use Rattle.pim_adder.specs.Drawn.{RowsView, after}
-use Rattle.pim_vectors.specs.Tiles.{IsVector, SameSizes}
+use Rattle.pim_vectors.specs.Tiles.{IsVector}
 use Rattle.pim_bench.proofs.Digits.{row_line_fits, row_sum_long}
 use Rattle.pim_bench.proofs.Rows.{later-bits, later-more, later-none}
 use Rattle.pim_bench.proofs.Tiles.{packed_more}

@@ -1,17 +1,8 @@
-use Rattle.std.proofs.Common.{◌≡◌, ℕ, List, Option, map, subst, ◌∙◌, ap}
-use Rattle.pim_graph.specs.Allotments.{AllotmentView, IsAllotment}
-use Rattle.pim_graph.specs.Graphs.{GraphView}
+use Rattle.std.proofs.Common.{map, ◌∙◌, ap}
 use Rattle.pim_graph.specs.Orders.{order}
 use Rattle.pim_rm3.specs.Gates.{gate_graph, gates, taken}
+use Rattle.pim_rm3.proofs.GateOrders.{moved}
 use Rattle.pim_rm3.proofs.schedule.planned.Goals as goal
-
-moved : (v w : GraphView) (xs ys : List ℕ) (o u : List (Option ℕ)) (f h : ℕ) (a : AllotmentView) → v ≡ w → xs ≡ ys → o ≡ u → f ≡ h → IsAllotment v xs o f a → IsAllotment w ys u h a
-moved v w xs ys o u f h a p q r s all =
-    let A : GraphView → Type 0 = λ x. IsAllotment x xs o f a in
-    let B : List ℕ → Type 0 = λ x. IsAllotment w x o f a in
-    let C : List (Option ℕ) → Type 0 = λ x. IsAllotment w ys x f a in
-    let D : ℕ → Type 0 = λ x. IsAllotment w ys u x a in
-    subst D s (subst C r (subst B q (subst A p all)))
 
 pub returns-clause-allotment : goal.returns-clause-allotment
 returns-clause-allotment c =

@@ -1,10 +1,10 @@
-use Rattle.std.proofs.Common.{◌≡◌, ℕ, ◌*◌, ◌/◌, ◌%◌, ◌<◌, Bool, true, false, eqb, nat_lt, ◌&&◌, not, length, sym, ◌∙◌, ap, arith}
+use Rattle.std.proofs.Common.{◌≡◌, ℕ, ◌/◌, ◌%◌, ◌<◌, Bool, true, false, eqb, nat_lt, ◌&&◌, not, length, sym, ◌∙◌, ap, arith}
 use Rattle.std.proofs.lemmas.Bool.Decides.{nat_tests}
 use Rattle.std.proofs.lemmas.Grind.{common_steps}
 use Rattle.pim_aig.specs.declared.literal.Lit.{Lit}
 use Rattle.pim_graph.specs.Graphs.{GraphView, has}
 use Rattle.pim_graph.specs.Readers.{reads}
-use Rattle.pim_mig.specs.Graph.{MigView, size}
+use Rattle.pim_mig.specs.Graph.{MigView}
 use Rattle.pim_rm3.specs.Steps.{can_be_taken, mig_gates, mig_graph}
 use Rattle.pim_rm3.proofs.StepLaws.{kids_count}
 use Rattle.pim_rm3.proofs.step.can_be_taken.Goals as goal

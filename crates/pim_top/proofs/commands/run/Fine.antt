@@ -1,96 +1,31 @@
 -- A program file and lines that `run` takes are not refused.
-use Rattle.std.proofs.Common.{◌≡◌, ℕ, ◌+◌, ◌≤◌, Bool, true, false, cond, eqb, leb, List, [], ◌∷◌, None, Some, Result, Ok, Err, length, take, inl, inr, refl, sym, ap, ◌∙◌, subst, arith}
-use Rattle.std.specs.Prelude.{All}
-use Rattle.std.proofs.lemmas.Bool.{le-leb}
-use Rattle.std.proofs.lemmas.Bool.Decides.{nat_tests}
-use Rattle.std.proofs.lemmas.List.Elements.{All-head, All-tail}
-use Rattle.pim_batch.specs.Runners.{Runner}
+use Rattle.std.proofs.Common.{◌≡◌, ℕ, List, Result, Ok, ap}
 use Rattle.pim_batch.specs.Tables.{runner_of}
 use Rattle.pim_file.specs.declared.fault.FileFault.{FileFault}
 use Rattle.pim_isa.specs.Programs.{ProgramView}
-use Rattle.pim_io.specs.declared.limits.TheConstants.{MAX_INPUT}
-use Rattle.pim_vectors.specs.Lines.{lines}
-use Rattle.pim_vectors.specs.Tiles.{IsVector}
-use Rattle.pim_vectors.specs.declared.limits.TheConstants.{MAX_LINES}
 use Rattle.pim_words.specs.declared.command.Command.TheVariants as commands
 use Rattle.pim_words.specs.declared.command.FillWord.{FillWord}
-use Rattle.pim_top.specs.Decides.{RowsDecide}
-use Rattle.pim_top.specs.Judged.{first_refusal, input_refusal, is_vector, judged_lines, settled}
-use Rattle.pim_top.specs.Programs.{judged_as, program_of}
-use Rattle.pim_top.specs.Rows.{IsUnloaded, RowsEnd}
-use Rattle.pim_top.specs.Statuses.{answer_status}
-use Rattle.pim_top.specs.Streams.{Seen, Stream}
-use Rattle.pim_top.specs.Walks.{ran}
+use Rattle.pim_top.specs.Programs.{judged_as}
+use Rattle.pim_top.specs.Rows.{RowsEnd}
+use Rattle.pim_top.specs.Streams.{Seen}
 use Rattle.pim_top.specs.commands.Run.{RunsFine, fill_of, run_by, run_of}
-use Rattle.pim_top.specs.declared.judgement.Judgement.{Judgement}
 use Rattle.pim_top.specs.declared.judgement.Judgement.TheVariants as judgement
-use Rattle.pim_top.specs.declared.refusal.Origin.TheVariants as origin
 use Rattle.pim_top.specs.declared.refusal.Refusal.{Refusal}
-use Rattle.pim_top.specs.declared.refusal.Refusal.TheVariants as refusal
-use Rattle.pim_top.specs.declared.status.Status.TheVariants as status
 use Rattle.pim_top.specs.inner.Faultless.{IsComplete}
-use Rattle.pim_top.proofs.RowsEnds.{rows-decided}
-use Rattle.pim_top.proofs.WalkStates.{vector-yes}
+use Rattle.pim_top.proofs.RowsFine.{AreTaken, rows-fine}
 
--- few vectors are not refused
-none-refused : (width n : ℕ) (ls : List (List ℕ)) → n + length ls ≤ MAX_LINES → All (IsVector width) ls → first_refusal width n None ls ≡ None
-none-refused width n [] few all = refl
-none-refused width n (line ∷ ls) few all =
-    let more : eqb n MAX_LINES ≡ false = grind (arith, nat_tests) in
-    let fits = vector-yes width line (All-head (IsVector width) line ls all) in
-    ap (λ (b : Bool). cond b (Some (refusal.Judged judgement.TooManyLines)) (cond (is_vector width line) (first_refusal width (n + 1) None ls) (Some (refusal.Judged (judgement.Vector (n + 1)))))) more
-    ∙ ap (λ (b : Bool). cond b (first_refusal width (n + 1) None ls) (Some (refusal.Judged (judgement.Vector (n + 1))))) fits
-    ∙ none-refused width (n + 1) ls (omega (arith, few)) (All-tail (IsVector width) line ls all)
-
--- an input of few vectors within the limit is not refused
-pub fine-input : (width : ℕ) (bytes : List ℕ) → length bytes ≤ MAX_INPUT → length (lines bytes) ≤ MAX_LINES → All (IsVector width) (lines bytes) → input_refusal width bytes ≡ None
-fine-input width bytes fits few all =
-    let yes = le-leb (length bytes) MAX_INPUT fits in
-    ap (λ (b : Bool). first_refusal width 0 (cond b None (Some (refusal.TooLong origin.Input))) (judged_lines width bytes)) yes
-    ∙ ap (first_refusal width 0 None) (judged bytes yes)
-    ∙ none-refused width 0 (lines bytes) (omega arith) all
-  where
-    judged : (bytes : List ℕ) → leb (length bytes) MAX_INPUT ≡ true → judged_lines width bytes ≡ lines bytes
-    judged bytes e = ap (λ (b : Bool). cond b (lines bytes) (lines (settled width (take MAX_INPUT bytes)))) e
-
-abbrev ok_of : Runner → Result Runner Judgement
-ok_of r = Ok r
-
-rows-fine : (fill : FillWord) (file bytes : List ℕ) (answer : Result (List ℕ) Refusal) → RunsFine file bytes → RowsDecide (run_of fill) file bytes answer → answer_status answer ≡ status.Done
-rows-fine fill file bytes answer fine h =
-    let loaded : run_of fill file ≡ Ok (runner_of fine.program (fill_of fill)) = ap (λ (r : Result ProgramView FileFault). run_by fill (judged_as (λ f. judgement.File f) r)) fine.is_program in
-    let same : h.runner ≡ runner_of fine.program (fill_of fill) = same-ok h.runner (runner_of fine.program (fill_of fill)) (sym h.loaded ∙ loaded) in
-    let none : input_refusal h.runner.width bytes ≡ None = subst (λ (r : Runner). input_refusal r.width bytes ≡ None) (sym same) (fine-input (length fine.program.inputs) bytes fine.fits fine.few fine.vectors) in
-    ap answer_status (h.is ∙ ap (ran h.runner bytes) none)
-  where
-    by : Result Runner Judgement → Runner → Runner
-    by (Ok r) s = r
-    by (Err j) s = s
-
-    same-ok : (r s : Runner) → ok_of r ≡ ok_of s → r ≡ s
-    same-ok r s e = ap (λ (x : Result Runner Judgement). by x s) e
+takes : (fill : FillWord) (file input : List ℕ) → RunsFine file input → AreTaken (run_of fill) file input
+takes fill file input fine = record {
+  file_fits = fine.file_fits;
+  runner = runner_of fine.program (fill_of fill);
+  loaded = ap (λ (r : Result ProgramView FileFault). run_by fill (judged_as (λ f. judgement.File f) r)) fine.is_program;
+  fits = fine.fits;
+  few = fine.few;
+  vectors = fine.vectors;
+}
 
 -- what `run` takes is done, or memory ran out
 pub run-complete : {Y : Type 0} (fill : FillWord) (seen : Seen) (result : Result Y Refusal) → RowsEnd (run_of fill) seen result → IsComplete (commands.Run fill) seen result
 run-complete fill seen result h = record {
-  ends = λ file input t u calm fine. elim (rows-decided (run_of fill) seen file input result t u calm h) [
-    | inl (inl long) ↦ absurd (let z : ⊥ = omega (arith, fine.file_fits, long.0) in z)
-    | inl (inr judged) ↦ absurd (let a : run_of fill file ≡ Ok (runner_of fine.program (fill_of fill)) = ap (λ (r : Result ProgramView FileFault). run_by fill (judged_as (λ f. judgement.File f) r)) fine.is_program in let b = judged.2 in let z : ⊥ = cc in z)
-    | inr (inl late) ↦ inl (late.3 ∙ rows-fine fill file input late.0 fine late.2)
-    | inr (inr wanting) ↦ inr wanting
-  ];
+  ends = λ file input t u calm fine. rows-fine (run_of fill) seen file input result t u calm h (takes fill file input fine);
 }
-
--- a program file of which no program was made gives no runner
-pub unloaded-run : (fill : FillWord) (s : Stream) (r : Refusal) → IsUnloaded program_of s r → IsUnloaded (run_of fill) s r
-unloaded-run fill s refusal.Usage h = h
-unloaded-run fill s refusal.NoMemory h = h
-unloaded-run fill s (refusal.ReadFault origin.Program) h = h
-unloaded-run fill s (refusal.ReadFault origin.Input) h = h
-unloaded-run fill s (refusal.TooLong origin.Program) h = h
-unloaded-run fill s (refusal.TooLong origin.Input) h = h
-unloaded-run fill s refusal.WriteFault h = h
-unloaded-run fill s (refusal.Judged j) h = elim h [
-  | inl wanting ↦ inl wanting
-  | inr loaded ↦ inr (record { file = loaded.file; read = loaded.read; is = ap (run_by fill) loaded.is })
-]

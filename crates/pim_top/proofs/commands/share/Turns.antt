@@ -1,5 +1,5 @@
 -- The turns of lines, one line after another.
-use Rattle.std.proofs.Common.{◌≡◌, ℕ, List, [], ◌∷◌, ◌++◌, Result, Ok, Err, ap, append_assoc, refl, sym}
+use Rattle.std.proofs.Common.{◌≡◌, ℕ, List, [], ◌∷◌, ◌++◌, Result, Ok, Err, ap, append_assoc, refl}
 use Rattle.pim_io.specs.Lines.{LineView}
 use Rattle.pim_io.specs.Readings.{◌>>=◌}
 use Rattle.pim_top.specs.commands.Share.{turn_of, turns_in}
@@ -9,6 +9,10 @@ use Rattle.pim_top.specs.declared.judgement.Judgement.{Judgement}
 abbrev pub with_turns : List ℕ → Result (List ℕ) Judgement → Result (List ℕ) Judgement
 with_turns turns (Ok more) = Ok (turns ++ more)
 with_turns turns (Err j) = Err j
+
+pub none_before : (rest : Result (List ℕ) Judgement) → with_turns [] rest ≡ rest
+none_before (Ok more) = refl
+none_before (Err j) = refl
 
 pub one_more : (turns : List ℕ) (line : LineView) (others : List LineView) (turn : ℕ) → turn_of line ≡ Ok turn →
     with_turns (turns ++ turn ∷ []) (turns_in others) ≡ with_turns turns (turns_in (line ∷ others))

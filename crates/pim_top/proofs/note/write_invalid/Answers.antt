@@ -10,4 +10,4 @@ pub returns-in-InitList : goal.returns-in-InitList
 returns-in-InitList g c = rw c.in-InitList.is c.write_instruction-in-InitList.ensures
 
 pub returns-in-Port : goal.returns-in-Port
-returns-in-Port g c = rw c.in-Port.is c.write_bad_number.ensures
+returns-in-Port g c = rw c.in-Port.is c.write_placed.ensures

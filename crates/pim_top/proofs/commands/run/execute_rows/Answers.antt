@@ -1,6 +1,8 @@
 use Rattle.std.proofs.Common.{inl, refl}
 use Rattle.std.proofs.lemmas.Result.{err_from_is_err_and}
-use Rattle.pim_top.proofs.commands.run.Fine.{unloaded-run}
+use Rattle.pim_top.specs.Programs.{program_of}
+use Rattle.pim_top.specs.commands.Run.{run_by}
+use Rattle.pim_top.proofs.RowsFine.{unloaded}
 use Rattle.pim_top.proofs.commands.run.execute_rows.Goals as goal
 
 pub returns-in_err-program : goal.returns-in_err-program
@@ -10,5 +12,5 @@ returns-in_err-program g c =
     (inl (record {
       input = record { same = refl; steady = refl };
       output = record { same = refl; steady = refl };
-      why = unloaded-run c.args.fill _ _ c.in_err-program.ensures.refused;
+      why = unloaded program_of (run_by c.args.fill) (λ j. refl) _ _ c.in_err-program.ensures.refused;
     }))
