@@ -1,10 +1,10 @@
 -- A pass leaves no more needed nodes than it makes for needed nodes.
-use Rattle.std.proofs.Common.{◌≡◌, ◌≢◌, ◌⊎◌, ℕ, zero, suc, ◌+◌, ◌-◌, ◌*◌, ◌/◌, ◌%◌, ◌<◌, ◌≤◌, Bool, true, false, cond, eqb, ltb, not, ◌&&◌, List, [], ◌∷◌, ◌++◌, length, get_or, map, refl, sym, ◌∙◌, ap, subst, arith, inl, inr, length-append}
+use Rattle.std.proofs.Common.{◌≡◌, ◌⊎◌, ℕ, zero, suc, ◌+◌, ◌-◌, ◌/◌, ◌%◌, ◌<◌, ◌≤◌, Bool, true, false, cond, eqb, ltb, List, [], ◌∷◌, ◌++◌, length, get_or, map, refl, sym, ◌∙◌, ap, subst, arith, inl, inr, length-append}
 use Rattle.std.proofs.lemmas.Bool.Decides.{eqb_tells}
 use Rattle.std.proofs.lemmas.List.FromFn.{get_or-map-range_with_len, length-map-range_with_len}
 use Rattle.pim_aig.specs.Literals.{complement, node, plain}
 use Rattle.pim_aig.specs.declared.literal.Lit.{Lit}
-use Rattle.pim_mig.specs.Graph.{IsMig, MigView, size}
+use Rattle.pim_mig.specs.Graph.{IsMig, MigView}
 use Rattle.pim_mig.specs.Laws.{Answer, IsFront, IsOperand, NodeLaws}
 use Rattle.pim_mig.specs.Laws.Answer.{by_new, by_node, by_rule}
 use Rattle.pim_mig.specs.Majs.{begun, Making, moved}
@@ -13,7 +13,7 @@ use Rattle.pim_mig.specs.Nodes.{made, same_operands}
 use Rattle.pim_mig.specs.declared.node.Maj.{Maj}
 use Rattle.pim_rewrite.specs.Passes.{after, passed_from, Step, stepped}
 use Rattle.pim_rewrite.proofs.Counting.{counted_is, in_list}
-use Rattle.pim_rewrite.proofs.Frame.{after_front, AtNode, bool_cases, front_refl, get_or_front, get_or_last, Grows, lit_front, lit_last, lits_count, made_front, none, one_if, operand_times, ops, output_needed, positive, begun_count}
+use Rattle.pim_rewrite.proofs.Frame.{AtNode, bool_cases, get_or_last, lit_front, lit_last, lits_count, made_front, none, one_if, operand_times, ops, output_needed, positive, begun_count}
 use Rattle.pim_rewrite.proofs.Values.{AreRest, at_rest, rest_all, rest_next}
 
 abbrev zero_lit : Lit
@@ -267,11 +267,11 @@ pub needed_live : (t : MigView) (live : List ℕ) → IsClosed t.inputs t.nodes 
 needed_live t live c outs =
     let count = counted_is (is_needed t) (1 + t.inputs) (length t.nodes) in
     let few = in_list (is_needed t) (1 + t.inputs) (length t.nodes) live (λ i low needed.
-        let pos = positive (named t i + reads t i) needed in
-        above t.inputs i live (omega arith) (elim (two_ways (named t i)) [
-          | inl o ↦ outs i o
-          | inr o ↦ reads_live t.inputs (map node t.outputs) live (1 + t.inputs) t.nodes (omega arith) outs c.closed i (omega arith)
-        ])) in
+    let pos = positive (named t i + reads t i) needed in
+    above t.inputs i live (omega arith) (elim (two_ways (named t i)) [
+      | inl o ↦ outs i o
+      | inr o ↦ reads_live t.inputs (map node t.outputs) live (1 + t.inputs) t.nodes (omega arith) outs c.closed i (omega arith)
+    ])) in
     omega arith
 
 -- the outputs' nodes are live

@@ -1,22 +1,21 @@
 -- The copy of a graph in normal form, but for what is not needed, is in normal form.
-use Rattle.std.proofs.Common.{◌≡◌, ◌≢◌, ◌⊎◌, ℕ, zero, suc, ◌+◌, ◌-◌, ◌*◌, ◌/◌, ◌%◌, ◌<◌, ◌≤◌, Bool, true, false, cond, eqb, ltb, not, ◌&&◌, ◌||◌, List, [], ◌∷◌, ◌++◌, length, get_or, map, Option, Some, None, refl, sym, ◌∙◌, ap, subst, arith, inl, inr, length-append}
-use Rattle.std.specs.Prelude.{is_some}
+use Rattle.std.proofs.Common.{◌≡◌, ◌≢◌, ℕ, suc, ◌+◌, ◌-◌, ◌/◌, ◌%◌, ◌<◌, Bool, true, false, cond, eqb, ◌||◌, List, [], ◌∷◌, ◌++◌, length, get_or, Option, Some, None, refl, sym, ◌∙◌, ap, subst, arith, inl, inr, length-append}
 use Rattle.std.proofs.lemmas.Bool.Decides.{nat_tests, eqb_tells}
 use Rattle.std.proofs.lemmas.List.{append_assoc}
 use Rattle.std.proofs.lemmas.List.FromFn.{get_or-map-range_with_len, length-map-range_with_len}
 use Rattle.pim_aig.specs.Literals.{complement, node, plain}
 use Rattle.pim_aig.specs.declared.literal.Lit.{Lit}
 use Rattle.pim_mig.specs.Graph.{IsApart, IsMig, MigView}
-use Rattle.pim_mig.specs.Laws.{Answer, IsOperand, NodeLaws}
+use Rattle.pim_mig.specs.Laws.{Answer, NodeLaws}
 use Rattle.pim_mig.specs.Laws.Answer.{by_new, by_node, by_rule}
 use Rattle.pim_mig.specs.Majs.{begun, Making, moved}
-use Rattle.pim_mig.specs.Needs.{is_needed, is_single, named, reads, reads_from, times}
+use Rattle.pim_mig.specs.Needs.{is_needed}
 use Rattle.pim_mig.specs.Nodes.{made, same_operands, simplified}
 use Rattle.pim_mig.specs.declared.node.Maj.{Maj}
-use Rattle.pim_rewrite.specs.Passes.{after, copy, moved_node, passed_from, plainly, stepped}
+use Rattle.pim_rewrite.specs.Passes.{after, moved_node, passed_from, plainly, stepped}
 use Rattle.pim_rewrite.proofs.Counting.{counted}
-use Rattle.pim_rewrite.proofs.Frame.{AtNode, begun_count, bool_cases, get_or_front, get_or_last, lit_front, lit_last, lits_count, none, one_if, operand_needed, output_needed, true_not_false}
-use Rattle.pim_rewrite.proofs.Ranks.{AreRanked, counted_more, counted_rises, IsRanked, moved_ren, node_ren, rank, rank_input, rank_is, rank_node, ren, ren_apart, ren_node, same_ren}
+use Rattle.pim_rewrite.proofs.Frame.{AtNode, begun_count, get_or_front, get_or_last, lit_front, lit_last, none, one_if, operand_needed, true_not_false}
+use Rattle.pim_rewrite.proofs.Ranks.{AreRanked, counted_more, counted_rises, IsRanked, moved_ren, rank, rank_input, rank_node, ren, ren_apart, ren_node, same_ren}
 use Rattle.pim_rewrite.proofs.Values.{AreRest, at_rest, rest_all, rest_next}
 use Rattle.pim_rewrite.proofs.Views.{node_apart}
 

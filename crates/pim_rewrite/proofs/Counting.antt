@@ -1,10 +1,10 @@
 -- Counting marked numbers.
-use Rattle.std.proofs.Common.{◌≡◌, ◌⊎◌, ℕ, zero, suc, ◌+◌, ◌*◌, ◌<◌, ◌≤◌, Bool, true, false, cond, eqb, ltb, not, ◌&&◌, List, [], ◌∷◌, ◌++◌, length, refl, sym, ◌∙◌, ap, arith, inl, inr}
+use Rattle.std.proofs.Common.{◌≡◌, ℕ, zero, suc, ◌+◌, ◌<◌, ◌≤◌, Bool, true, false, cond, eqb, ltb, not, ◌&&◌, List, [], ◌∷◌, length, refl, sym, ◌∙◌, ap, arith, inl, inr}
 use Rattle.std.specs.List.{count_by, range_with_len}
-use Rattle.std.proofs.lemmas.Bool.Decides.{nat_tests, eqb_tells}
+use Rattle.std.proofs.lemmas.Bool.Decides.{eqb_tells}
 use Rattle.std.proofs.lemmas.List.Sums.{sum_by-cons}
 use Rattle.pim_mig.specs.Needs.{times}
-use Rattle.pim_rewrite.proofs.Frame.{bool_cases, is_positive, not_positive, one_if, positive, times_self, true_not_false}
+use Rattle.pim_rewrite.proofs.Frame.{bool_cases, is_positive, one_if, times_self, true_not_false}
 
 -- how many of the n numbers from a on are marked
 abbrev pub counted : (ℕ → Bool) → ℕ → ℕ → ℕ
@@ -113,10 +113,10 @@ pub in_list : (p : ℕ → Bool) (a n : ℕ) (xs : List ℕ) → ((i : ℕ) → 
 in_list p a n [] h = let e = none_counted p a n (λ i b m. absurd (let z = h i b m in omega arith)) in omega arith
 in_list p a n (x ∷ xs) h =
     let few = in_list (without p x) a n xs (λ i b m.
-        let t = both (p i) (not (eqb x i)) m in
-        let z = ap one_if (not_is (eqb x i) t.1) in
-        let w = h i b t.0 in
-        omega arith) in
+    let t = both (p i) (not (eqb x i)) m in
+    let z = ap one_if (not_is (eqb x i) t.1) in
+    let w = h i b t.0 in
+    omega arith) in
     omega (arith, without_few p x a n)
 
 -- a list that has no number twice

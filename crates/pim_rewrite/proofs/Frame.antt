@@ -1,17 +1,17 @@
 -- What each pass keeps: the nodes that are made stay, each old node gets a literal, and what needed nodes read is needed.
-use Rattle.std.proofs.Common.{◌≡◌, ◌⊎◌, ℕ, zero, suc, ◌+◌, ◌*◌, ◌/◌, ◌%◌, ◌<◌, ◌≤◌, Bool, true, false, cond, eqb, ltb, not, List, [], ◌∷◌, ◌++◌, length, get_or, map, refl, sym, ◌∙◌, ap, subst, arith, inl, inr, length-append}
+use Rattle.std.proofs.Common.{◌≡◌, ◌⊎◌, ℕ, zero, suc, ◌+◌, ◌<◌, ◌≤◌, Bool, true, false, cond, eqb, ltb, List, [], ◌∷◌, ◌++◌, length, get_or, map, refl, sym, ◌∙◌, ap, subst, arith, inl, inr, length-append}
 use Rattle.std.proofs.lemmas.Bool.Decides.{nat_tests, eqb_tells}
 use Rattle.std.proofs.lemmas.List.FromFn.{length-map-range_with_len}
 use Rattle.pim_aig.specs.Literals.{node, plain}
 use Rattle.pim_aig.specs.declared.literal.Lit.{Lit}
-use Rattle.pim_mig.specs.Graph.{IsMig, MigView, size}
+use Rattle.pim_mig.specs.Graph.{IsMig, MigView}
 use Rattle.pim_mig.specs.Laws.{Answer, IsFront, NodeLaws}
 use Rattle.pim_mig.specs.Laws.Answer.{by_new, by_node, by_rule}
 use Rattle.pim_mig.specs.Majs.{begun, Making}
 use Rattle.pim_mig.specs.Needs.{all_reads, is_needed, named, reads, reads_from, times}
 use Rattle.pim_mig.specs.Nodes.{made}
 use Rattle.pim_mig.specs.declared.node.Maj.{Maj}
-use Rattle.pim_rewrite.specs.Passes.{after, flipped_by, moved_node, opposite, passed_from, Step, stepped}
+use Rattle.pim_rewrite.specs.Passes.{after, passed_from, Step, stepped}
 
 pub bool_cases : (b : Bool) → (b ≡ true) ⊎ (b ≡ false)
 bool_cases true = inl refl
@@ -251,4 +251,3 @@ pub output_needed : (g : MigView) (k : ℕ) (d : Lit) → k < length g.outputs �
 output_needed g k d h =
     let a = output_times g.outputs k d h in
     is_positive (named g (node (get_or g.outputs k d)) + reads g (node (get_or g.outputs k d))) (omega arith)
-

@@ -1,5 +1,5 @@
 -- A distribution pass leaves fewer needed nodes: of each case two nodes are gone, and one comes.
-use Rattle.std.proofs.Common.{◌≡◌, ◌≢◌, ◌⊎◌, ℕ, zero, suc, ◌+◌, ◌-◌, ◌*◌, ◌/◌, ◌%◌, ◌<◌, ◌≤◌, Bool, true, false, cond, eqb, ltb, not, ◌&&◌, ◌||◌, List, [], ◌∷◌, ◌++◌, length, get_or, map, Option, Some, None, refl, sym, ◌∙◌, ap, subst, arith, inl, inr, length-append}
+use Rattle.std.proofs.Common.{◌≡◌, ◌≢◌, ◌⊎◌, ℕ, zero, suc, ◌+◌, ◌-◌, ◌*◌, ◌<◌, ◌≤◌, Bool, true, false, cond, ltb, not, ◌&&◌, List, [], ◌∷◌, ◌++◌, length, get_or, Option, Some, None, refl, sym, ◌∙◌, ap, subst, arith, inl, inr, length-append}
 use Rattle.std.specs.Prelude.{is_some}
 use Rattle.std.proofs.lemmas.Bool.Decides.{eqb_tells}
 use Rattle.pim_aig.specs.Literals.{node}
@@ -10,15 +10,15 @@ use Rattle.pim_mig.specs.Majs.{begun, Making, moved}
 use Rattle.pim_mig.specs.Needs.{is_needed, named, needed_count, reads, times}
 use Rattle.pim_mig.specs.Nodes.{made}
 use Rattle.pim_mig.specs.declared.node.Maj.{Maj}
-use Rattle.pim_rewrite.specs.Cases.{case_of, distribute, has_case, has_case_from, inner, is_spreadable, node_at, outer, spread, spread_case}
-use Rattle.pim_rewrite.specs.Passes.{after, moved_node, Step, stepped}
+use Rattle.pim_rewrite.specs.Cases.{case_of, distribute, has_case, has_case_from, inner, is_spreadable, node_at, outer, spread}
+use Rattle.pim_rewrite.specs.Passes.{after, moved_node, Step}
 use Rattle.pim_rewrite.specs.declared.cases.Case.{Case}
-use Rattle.pim_rewrite.proofs.Closing.{closed_front, Closes, IsClosed, IsCovered, IsLive, live_by, live_more, live_self, lives, lives_from, made_closed, node_operand, operand_node, passed_live}
+use Rattle.pim_rewrite.proofs.Closing.{closed_front, Closes, IsClosed, IsCovered, IsLive, live_by, live_more, live_self, lives_from, made_closed, node_operand, operand_node, passed_live}
 use Rattle.pim_rewrite.proofs.Counting.{AreMarked, counted, counted_is, IsDistinct, without_all, without_list}
-use Rattle.pim_rewrite.proofs.Frame.{AreBefore, AtNode, before_rest, bool_cases, front_both, Grows, is_positive, made_front, mig_before, mig_reads, none, not_positive, one_if, operand_needed, operand_times, ops, output_times, positive, reads_of, reads_part, times_append, times_self, true_not_false}
-use Rattle.pim_rewrite.proofs.NoMore.{moved_live, operands_live, plain_grows, three_live}
+use Rattle.pim_rewrite.proofs.Frame.{AreBefore, AtNode, before_rest, bool_cases, front_both, Grows, is_positive, made_front, mig_before, mig_reads, none, one_if, operand_needed, operand_times, ops, output_times, positive, reads_of, reads_part, times_append, true_not_false}
+use Rattle.pim_rewrite.proofs.NoMore.{moved_live, operands_live, three_live}
 use Rattle.pim_rewrite.proofs.Values.{AreRest, at_rest, rest_all, rest_next}
-use Rattle.pim_rewrite.proofs.Views.{Apart3, at_single, both, either, IsCase, matches, node_apart, operand_before, pair_of, shares, Shares, Single, single, Taken, taken_apart, taken_operands, v_operand, View, view}
+use Rattle.pim_rewrite.proofs.Views.{at_single, both, either, IsCase, matches, node_apart, operand_before, pair_of, shares, Single, single, Taken, taken_apart, taken_operands, v_operand, View, view}
 use Rattle.pim_rewrite.proofs.Views.Taken.{xyz, xzy, yzx}
 use Rattle.pim_rewrite.proofs.Views.View.{a_case, no_case}
 
@@ -185,15 +185,15 @@ twice_stays g i h = elim (bool_cases (gone g i)) [
 operand_taken : (m : Maj) (e f w l : Lit) → Taken m e f w → IsOperand l m → (l ≡ e) ⊎ ((l ≡ f) ⊎ (l ≡ w))
 operand_taken m e f w l (xyz a b d) h = elim h [
   | inl p ↦ inl (p ∙ sym a)
-  | inr r ↦ elim r [ | inl p ↦ inr (inl (p ∙ sym b)) | inr p ↦ inr (inr (p ∙ sym d)) ]
+  | inr r ↦ elim r [ inl p ↦ inr (inl (p ∙ sym b)) | inr p ↦ inr (inr (p ∙ sym d)) ]
 ]
 operand_taken m e f w l (xzy a b d) h = elim h [
   | inl p ↦ inl (p ∙ sym a)
-  | inr r ↦ elim r [ | inl p ↦ inr (inr (p ∙ sym d)) | inr p ↦ inr (inl (p ∙ sym b)) ]
+  | inr r ↦ elim r [ inl p ↦ inr (inr (p ∙ sym d)) | inr p ↦ inr (inl (p ∙ sym b)) ]
 ]
 operand_taken m e f w l (yzx a b d) h = elim h [
   | inl p ↦ inr (inr (p ∙ sym d))
-  | inr r ↦ elim r [ | inl p ↦ inl (p ∙ sym a) | inr p ↦ inr (inl (p ∙ sym b)) ]
+  | inr r ↦ elim r [ inl p ↦ inl (p ∙ sym a) | inr p ↦ inr (inl (p ∙ sym b)) ]
 ]
 
 third_is : (g : MigView) (m : Maj) (e f w c l : Lit) → Taken m e f w → is_spreadable g e ≡ true → is_spreadable g f ≡ true → IsOperand l m → is_spreadable g l ≡ false → l ≡ w
@@ -230,7 +230,7 @@ pub record AreKept (g : MigView) (n : ℕ) (c : Case) : Type 0 where
 needed_operand : (g : MigView) (k : ℕ) (m : Maj) (l : Lit) → IsMig g → AtNode g k m → IsOperand l m → is_needed g (node l) ≡ true
 needed_operand g k m l sound at h = operand_needed g k m (node l) sound at (elim h [
   | inl e ↦ inl (ap node e)
-  | inr r ↦ elim r [ | inl e ↦ inr (inl (ap node e)) | inr e ↦ inr (inr (ap node e)) ]
+  | inr r ↦ elim r [ inl e ↦ inr (inl (ap node e)) | inr e ↦ inr (inr (ap node e)) ]
 ])
 
 apart_places : (p q i : ℕ) → i < p → i < q → p ≢ q → p - (1 + i) ≢ q - (1 + i)
@@ -495,7 +495,7 @@ spread_fewer laws g t sound has is =
     let few = passed_live (spreads g) g t (gone g) (extra g) sound (spread_closes laws g sound) (outs_stay g) is in
     let count = lives_length g (is_needed g) (begun g.inputs) [] (1 + g.inputs) g.nodes in
     let less = without_list (is_needed g) (1 + g.inputs) (length g.nodes) (gone_list g)
-        (distinct g 0 (1 + g.inputs) g.nodes sound (rest_all g) (omega arith) (λ i. omega (arith, mig_reads g sound i))) (marked g sound) in
+    (distinct g 0 (1 + g.inputs) g.nodes sound (rest_all g) (omega arith) (λ i. omega (arith, mig_reads g sound i))) (marked g sound) in
     let pairs = gone_length (is_needed g) g (1 + g.inputs) g.nodes in
     let some = cases_some g (1 + g.inputs) g.nodes has in
     let all = counted_is (is_needed g) (1 + g.inputs) (length g.nodes) in

@@ -1,30 +1,28 @@
 -- What one step of each loop changes.
-use Rattle.std.proofs.Common.{◌≡◌, ◌⊎◌, ℕ, zero, suc, ◌+◌, ◌-◌, ◌*◌, ◌/◌, ◌%◌, ◌<◌, ◌≤◌, Bool, true, false, cond, eqb, ltb, not, ◌&&◌, ◌||◌, List, [], ◌∷◌, ◌++◌, All, length, get_or, map, take, drop, Option, Some, None, refl, sym, ◌∙◌, ap, subst, arith, inl, inr, length-append}
+use Rattle.std.proofs.Common.{◌≡◌, ℕ, suc, ◌+◌, ◌-◌, ◌*◌, ◌<◌, ◌≤◌, Bool, true, false, cond, eqb, ltb, ◌&&◌, ◌||◌, List, [], ◌∷◌, ◌++◌, length, get_or, map, take, drop, Option, Some, None, refl, sym, ◌∙◌, ap, arith, inl, inr}
 use Rattle.std.specs.Prelude.{is_some}
 use Rattle.std.proofs.lemmas.List.{drop_more, length-map, length-take-le, map-append, take_more}
-use Rattle.std.proofs.lemmas.List.Elements.{All-push}
-use Rattle.pim_aig.specs.Graph.{IsOfFirst}
 use Rattle.pim_aig.specs.Literals.{node}
 use Rattle.pim_aig.specs.declared.literal.Lit.{Lit}
 use Rattle.pim_mig.specs.Graph.{IsApart, IsMig, MigView, size}
 use Rattle.pim_mig.specs.Laws.{IsOperand, NodeLaws}
-use Rattle.pim_mig.specs.Majs.{Making, moved}
-use Rattle.pim_mig.specs.Needs.{is_needed, named, needed_count, reads, reads_from, times}
+use Rattle.pim_mig.specs.Majs.{Making}
+use Rattle.pim_mig.specs.Needs.{is_needed, needed_count, reads_from, times}
 use Rattle.pim_mig.specs.declared.node.Maj.{Maj}
-use Rattle.pim_rewrite.specs.Cases.{case_of, has_case, has_case_from, match_nodes, match_pair, node_at, other}
-use Rattle.pim_rewrite.specs.Passes.{after, passed_from, Step, stepped}
+use Rattle.pim_rewrite.specs.Cases.{case_of, has_case, has_case_from, match_pair, node_at}
+use Rattle.pim_rewrite.specs.Passes.{passed_from, Step, stepped}
 use Rattle.pim_rewrite.specs.declared.cases.Case.{Case}
 use Rattle.pim_rewrite.specs.declared.passes.Pass.{Pass}
 use Rattle.pim_rewrite.specs.declared.passes.Pass.TheVariants.{Copy, Distribute, Flip}
 use Rattle.pim_rewrite.specs.inner.Steps.{step_of}
-use Rattle.pim_rewrite.specs.inner.Tables.{IsBefore, IsCaseBefore, most_made}
+use Rattle.pim_rewrite.specs.inner.Tables.{IsCaseBefore, most_made}
 use Rattle.pim_rewrite.proofs.Counting.{counted, counted_is, counted_split, without_one}
-use Rattle.pim_rewrite.proofs.Frame.{AtNode, bool_cases, from_split, Grows, none, one_if, ops, times_append, true_not_false}
-use Rattle.pim_rewrite.proofs.Gone.{kept, spread_grows, spreads}
+use Rattle.pim_rewrite.proofs.Frame.{AtNode, bool_cases, from_split, Grows, none, one_if, ops, times_append}
+use Rattle.pim_rewrite.proofs.Gone.{spread_grows}
 use Rattle.pim_rewrite.proofs.NoMore.{flip_grows, plain_grows}
 use Rattle.pim_rewrite.proofs.Spreading.{spread_values}
 use Rattle.pim_rewrite.proofs.Values.{AreTwo, flip_values, KeepsValues, plain_values}
-use Rattle.pim_rewrite.proofs.Views.{IsCase, matches, operand_before, pair_case, PairCase, shares, Shares, single, Single, single_needed, taken_operands, v_operand, View, view}
+use Rattle.pim_rewrite.proofs.Views.{matches, operand_before, pair_case, shares, single, Single, single_needed, taken_operands, v_operand, View, view}
 use Rattle.pim_rewrite.proofs.Views.View.{a_case, no_case}
 
 -- ---- the counts
@@ -78,7 +76,7 @@ reads_step outs nodes first done n table old new needed len all there outs_are o
     let cut = drop_more nodes k none (omega arith) in
     let up : first + (k + 1) ≡ suc here = omega arith in
     let later : (j : ℕ) → times j (reads_from outs (first + (length nodes - done)) (drop (length nodes - done) nodes)) ≡ times j (reads_from outs (suc here) rest) = λ j.
-        ap (λ (x : ℕ). times j (reads_from outs (first + x) (drop x nodes))) next ∙ ap (λ (x : ℕ). times j (reads_from outs x rest)) up in
+    ap (λ (x : ℕ). times j (reads_from outs (first + x) (drop x nodes))) next ∙ ap (λ (x : ℕ). times j (reads_from outs x rest)) up in
     let in_range : here < n = omega arith in
     let test : needed ≡ ltb 0 (times here outs + times here (reads_from outs (suc here) rest)) =
     is ∙ ap (λ (x : ℕ). ltb 0 (x + get_or old here 0)) (outs_are here in_range) ∙ ap (λ (x : ℕ). ltb 0 (times here outs + x)) (old_are here in_range ∙ later here) in

@@ -1,6 +1,5 @@
 -- A copy and a flip pass leave no more needed nodes.
-use Rattle.std.proofs.Common.{◌≡◌, ◌⊎◌, ℕ, zero, suc, ◌+◌, ◌-◌, ◌*◌, ◌/◌, ◌%◌, ◌<◌, ◌≤◌, Bool, true, false, cond, eqb, ltb, not, ◌&&◌, List, [], ◌∷◌, ◌++◌, length, get_or, map, refl, sym, ◌∙◌, ap, subst, arith, inl, inr}
-use Rattle.std.proofs.lemmas.Bool.Decides.{eqb_tells}
+use Rattle.std.proofs.Common.{◌≡◌, ℕ, suc, ◌+◌, ◌<◌, ◌≤◌, Bool, true, false, cond, ltb, List, [], ◌∷◌, length, refl, sym, ap, subst, arith, inl, inr}
 use Rattle.pim_aig.specs.Literals.{complement, node}
 use Rattle.pim_aig.specs.declared.literal.Lit.{Lit}
 use Rattle.pim_mig.specs.Graph.{IsMig, MigView}
@@ -9,10 +8,10 @@ use Rattle.pim_mig.specs.Majs.{begun, Making, moved}
 use Rattle.pim_mig.specs.Needs.{is_needed, needed_count, times}
 use Rattle.pim_mig.specs.Nodes.{made}
 use Rattle.pim_mig.specs.declared.node.Maj.{Maj}
-use Rattle.pim_rewrite.specs.Passes.{after, copy, flip, flipped, flipped_by, inversions, moved_node, opposite, plainly, Step, stepped}
+use Rattle.pim_rewrite.specs.Passes.{after, copy, flip, flipped, flipped_by, inversions, moved_node, opposite, plainly, Step}
 use Rattle.pim_rewrite.proofs.Closing.{Closes, IsClosed, IsCovered, IsLive, live_by, lives, lives_from, made_closed, node_complement, node_moved, node_operand, passed_live}
 use Rattle.pim_rewrite.proofs.Counting.{counted, counted_is}
-use Rattle.pim_rewrite.proofs.Frame.{AtNode, bool_cases, front_refl, Grows, made_front, none, operand_needed, ops}
+use Rattle.pim_rewrite.proofs.Frame.{AtNode, Grows, made_front, none, operand_needed, ops}
 
 pub plain_grows : (laws : NodeLaws) (inputs : ℕ) → Grows (plainly inputs)
 plain_grows laws inputs = record { front = λ st m. made_front laws inputs st.nodes (moved_node st.lits m) }

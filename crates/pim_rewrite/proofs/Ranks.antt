@@ -1,15 +1,15 @@
 -- The number of a needed node among the needed ones: the copy of a graph renumbers its nodes so.
-use Rattle.std.proofs.Common.{◌≡◌, ◌≢◌, ◌⊎◌, ℕ, zero, suc, ◌+◌, ◌-◌, ◌*◌, ◌/◌, ◌%◌, ◌<◌, ◌≤◌, min, max, Bool, true, false, cond, eqb, ltb, not, ◌&&◌, ◌||◌, List, [], ◌∷◌, ◌++◌, length, get_or, map, refl, sym, ◌∙◌, ap, subst, arith, inl, inr}
+use Rattle.std.proofs.Common.{◌≡◌, ◌≢◌, ◌⊎◌, ℕ, zero, suc, ◌+◌, ◌-◌, ◌*◌, ◌/◌, ◌%◌, ◌<◌, ◌≤◌, min, max, Bool, true, false, cond, eqb, ltb, ◌&&◌, List, get_or, sym, ◌∙◌, ap, subst, arith, inl, inr}
 use Rattle.std.proofs.lemmas.Bool.Decides.{nat_tests, eqb_tells}
 use Rattle.pim_aig.specs.Literals.{complement, node, plain}
 use Rattle.pim_aig.specs.declared.literal.Lit.{Lit}
-use Rattle.pim_mig.specs.Graph.{IsApart, IsMig, MigView}
+use Rattle.pim_mig.specs.Graph.{IsApart, MigView}
 use Rattle.pim_mig.specs.Majs.{moved}
 use Rattle.pim_mig.specs.Needs.{is_needed}
-use Rattle.pim_mig.specs.Nodes.{greatest, least, middle, same_operands, simplified}
+use Rattle.pim_mig.specs.Nodes.{greatest, least, middle, same_operands}
 use Rattle.pim_mig.specs.declared.node.Maj.{Maj}
 use Rattle.pim_rewrite.proofs.Counting.{counted, counted_split}
-use Rattle.pim_rewrite.proofs.Frame.{bool_cases, one_if, true_not_false}
+use Rattle.pim_rewrite.proofs.Frame.{one_if}
 use Rattle.pim_rewrite.proofs.Views.{both, eqb_is, lit_is}
 
 -- an input stays, and a majority node comes after the needed ones before it

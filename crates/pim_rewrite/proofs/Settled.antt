@@ -1,24 +1,23 @@
 -- The copy is read as the graph is, and has a case where that has one.
-use Rattle.std.proofs.Common.{◌≡◌, ◌≢◌, ◌⊎◌, ℕ, zero, suc, ◌+◌, ◌-◌, ◌*◌, ◌/◌, ◌%◌, ◌<◌, ◌≤◌, Bool, true, false, cond, eqb, ltb, not, ◌&&◌, ◌||◌, List, [], ◌∷◌, ◌++◌, length, get_or, map, Option, Some, None, refl, sym, ◌∙◌, ap, subst, arith, inl, inr, length-append}
+use Rattle.std.proofs.Common.{◌≡◌, ◌≢◌, ◌⊎◌, ℕ, zero, suc, ◌+◌, ◌-◌, ◌/◌, ◌%◌, ◌<◌, ◌≤◌, Bool, true, false, cond, eqb, ltb, ◌&&◌, ◌||◌, List, [], ◌∷◌, ◌++◌, length, get_or, map, Option, Some, None, refl, sym, ◌∙◌, ap, subst, arith, inl, inr}
 use Rattle.std.specs.Prelude.{is_some}
 use Rattle.std.proofs.lemmas.Bool.Decides.{nat_tests, eqb_tells}
 use Rattle.pim_aig.specs.Literals.{node}
 use Rattle.pim_aig.specs.declared.literal.Lit.{Lit}
 use Rattle.pim_mig.specs.Graph.{IsMig, MigView}
 use Rattle.pim_mig.specs.Laws.{NodeLaws}
-use Rattle.pim_mig.specs.Majs.{begun, Making, moved}
+use Rattle.pim_mig.specs.Majs.{begun, moved}
 use Rattle.pim_mig.specs.Needs.{all_reads, is_needed, is_single, named, reads, reads_from, times}
 use Rattle.pim_mig.specs.declared.node.Maj.{Maj}
-use Rattle.pim_rewrite.specs.Cases.{case_of, first_of_two, has, has_case, has_case_from, is_spreadable, match_nodes, match_pair, node_at, other}
+use Rattle.pim_rewrite.specs.Cases.{case_of, first_of_two, has, has_case, has_case_from, is_spreadable, match_nodes, match_pair, node_at}
 use Rattle.pim_rewrite.specs.Normal.{AreUpright, IsNormal}
 use Rattle.pim_rewrite.specs.Passes.{copy, inversions, inverted, passed_from, plainly}
 use Rattle.pim_rewrite.specs.declared.cases.Case.{Case}
-use Rattle.pim_rewrite.proofs.Copied.{copied, Ended, IsCopied, packed, ranked_operands}
+use Rattle.pim_rewrite.proofs.Copied.{copied, IsCopied, packed, ranked_operands}
 use Rattle.pim_rewrite.proofs.Counting.{counted}
-use Rattle.pim_rewrite.proofs.Frame.{AreBefore, AtNode, before_rest, begun_count, bool_cases, by_both, cond_times, from_split, is_positive, lits_count, mig_before, none, one_if, ops, operand_needed, ops_before, output_needed, positive, true_not_false}
-use Rattle.pim_rewrite.proofs.Ranks.{AreRanked, counted_more, counted_rises, IsRanked, moved_ren, node_ren, number_is, rank, rank_input, rank_is, rank_node, ren, ren_node, sign_ren}
-use Rattle.pim_rewrite.proofs.Values.{AreRest, rest_all, rest_next}
-use Rattle.pim_rewrite.proofs.Views.{at_single, neither, single, Single}
+use Rattle.pim_rewrite.proofs.Frame.{AreBefore, AtNode, before_rest, begun_count, by_both, cond_times, from_split, is_positive, lits_count, mig_before, none, one_if, ops, operand_needed, ops_before, output_needed, positive, true_not_false}
+use Rattle.pim_rewrite.proofs.Ranks.{AreRanked, counted_more, IsRanked, moved_ren, node_ren, number_is, rank, rank_input, rank_is, rank_node, ren, ren_node, sign_ren}
+use Rattle.pim_rewrite.proofs.Views.{neither, single}
 
 eqb_yes : (m n : ℕ) → m ≡ n → eqb m n ≡ true
 eqb_yes m n e = grind (arith, nat_tests)

@@ -1,20 +1,20 @@
 -- A distribution pass keeps the values of needed nodes.
-use Rattle.std.proofs.Common.{◌≡◌, ◌≢◌, ◌⊎◌, ℕ, zero, suc, ◌+◌, ◌-◌, ◌*◌, ◌/◌, ◌%◌, ◌<◌, ◌≤◌, Bool, true, false, cond, eqb, ltb, not, ◌&&◌, ◌||◌, List, [], ◌∷◌, ◌++◌, length, get_or, map, Option, Some, None, refl, sym, ◌∙◌, ap, subst, arith, inl, inr}
-use Rattle.std.proofs.lemmas.Bool.Decides.{nat_tests, eqb_tells}
+use Rattle.std.proofs.Common.{◌≡◌, ◌≢◌, ℕ, ◌+◌, ◌-◌, ◌/◌, Bool, true, false, cond, eqb, ◌||◌, List, length, Option, Some, refl, sym, ◌∙◌, ap, subst, arith, inl, inr}
+use Rattle.std.proofs.lemmas.Bool.Decides.{nat_tests}
 use Rattle.pim_aig.specs.Literals.{node, plain}
 use Rattle.pim_aig.specs.declared.literal.Lit.{Lit}
-use Rattle.pim_mig.specs.Graph.{IsApart, IsMig, MigView}
+use Rattle.pim_mig.specs.Graph.{IsApart, MigView}
 use Rattle.pim_mig.specs.Laws.{IsFront, IsOperand}
 use Rattle.pim_mig.specs.Majs.{Making, moved}
 use Rattle.pim_mig.specs.Nodes.{made}
 use Rattle.pim_mig.specs.Values.{majority, mval}
 use Rattle.pim_mig.specs.declared.node.Maj.{Maj}
-use Rattle.pim_rewrite.specs.Cases.{case_of, inner, match_nodes, node_at, other, outer, spread}
+use Rattle.pim_rewrite.specs.Cases.{inner, node_at, other, outer, spread}
 use Rattle.pim_rewrite.specs.declared.cases.Case.{Case}
-use Rattle.pim_rewrite.proofs.Frame.{AtNode, front_both, made_front, none}
-use Rattle.pim_rewrite.proofs.Gone.{AreKept, IsKept, kept, same_case, spreads}
+use Rattle.pim_rewrite.proofs.Frame.{AtNode, front_both, made_front}
+use Rattle.pim_rewrite.proofs.Gone.{IsKept, kept, spreads}
 use Rattle.pim_rewrite.proofs.Values.{AreTwo, AreValued, by_three, KeepsValues, moved_value, old_value, plain_values, value_in}
-use Rattle.pim_rewrite.proofs.Views.{at_single, IsCase, lit_is, Matches, matches, node_apart, shares, single, Single, Taken, taken_apart, taken_operands, View, view}
+use Rattle.pim_rewrite.proofs.Views.{at_single, IsCase, lit_is, Matches, matches, node_apart, shares, single, Single, Taken, taken_operands, View, view}
 use Rattle.pim_rewrite.proofs.Views.Matches.{at_xy, at_xz, at_yz}
 use Rattle.pim_rewrite.proofs.Views.Taken.{xyz, xzy, yzx}
 use Rattle.pim_rewrite.proofs.Views.View.{a_case, no_case}

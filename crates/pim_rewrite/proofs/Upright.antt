@@ -1,5 +1,5 @@
 -- The flip pass leaves at most one complemented operand that is no constant.
-use Rattle.std.proofs.Common.{◌≡◌, ◌⊎◌, ℕ, zero, suc, ◌+◌, ◌-◌, ◌*◌, ◌/◌, ◌%◌, ◌<◌, ◌≤◌, Bool, true, false, cond, eqb, ltb, not, ◌&&◌, List, [], ◌∷◌, ◌++◌, length, get_or, refl, sym, ◌∙◌, ap, subst, arith, inl, inr, length-append}
+use Rattle.std.proofs.Common.{◌≡◌, ℕ, suc, ◌+◌, ◌-◌, ◌%◌, ◌<◌, ◌≤◌, Bool, true, false, cond, eqb, ltb, ◌&&◌, List, [], ◌∷◌, ◌++◌, length, get_or, refl, sym, ◌∙◌, ap, subst, arith, inl, inr, length-append}
 use Rattle.std.proofs.lemmas.Bool.Decides.{nat_tests, eqb_tells}
 use Rattle.pim_aig.specs.Literals.{complement}
 use Rattle.pim_aig.specs.declared.literal.Lit.{Lit}
@@ -9,8 +9,8 @@ use Rattle.pim_mig.specs.Majs.{Making}
 use Rattle.pim_mig.specs.Nodes.{made}
 use Rattle.pim_mig.specs.declared.node.Maj.{Maj}
 use Rattle.pim_rewrite.specs.Normal.{AreUpright}
-use Rattle.pim_rewrite.specs.Passes.{after, flipped, flipped_by, inversions, inverted, moved_node, opposite, passed_from, Step, stepped}
-use Rattle.pim_rewrite.proofs.Frame.{bool_cases, get_or_front, get_or_last, one_if}
+use Rattle.pim_rewrite.specs.Passes.{after, flipped, flipped_by, inversions, inverted, moved_node, opposite, passed_from, stepped}
+use Rattle.pim_rewrite.proofs.Frame.{get_or_front, get_or_last, one_if}
 
 one_at_most : (b : Bool) → one_if b ≤ 1
 one_at_most true = omega arith

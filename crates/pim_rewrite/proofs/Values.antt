@@ -1,10 +1,10 @@
 -- Each pass keeps the values of needed nodes.
-use Rattle.std.proofs.Common.{◌≡◌, ◌≢◌, ◌⊎◌, ℕ, zero, suc, ◌+◌, ◌-◌, ◌*◌, ◌/◌, ◌%◌, ◌<◌, ◌≤◌, Bool, true, false, cond, eqb, ltb, not, List, [], ◌∷◌, ◌++◌, length, get_or, map, Option, Some, None, refl, sym, ◌∙◌, ap, subst, arith, inl, inr, length-append}
+use Rattle.std.proofs.Common.{◌≡◌, ℕ, zero, suc, ◌+◌, ◌/◌, ◌%◌, ◌<◌, ◌≤◌, Bool, true, false, cond, ltb, not, List, [], ◌∷◌, ◌++◌, length, get_or, map, refl, sym, ◌∙◌, ap, subst, arith, inl, inr, length-append}
 use Rattle.std.proofs.lemmas.Bool.Decides.{eqb_tells}
 use Rattle.std.proofs.lemmas.List.FromFn.{get_or-map-range_with_len, length-map-range_with_len}
 use Rattle.pim_aig.specs.Literals.{complement, node, plain}
 use Rattle.pim_aig.specs.declared.literal.Lit.{Lit}
-use Rattle.pim_mig.specs.Graph.{IsMig, MigView, size}
+use Rattle.pim_mig.specs.Graph.{IsMig, MigView}
 use Rattle.pim_mig.specs.Laws.{IsFront, MajorityLaws, NodeLaws}
 use Rattle.pim_mig.specs.Majs.{begun, Making, moved}
 use Rattle.pim_mig.specs.Needs.{is_needed}
@@ -12,7 +12,7 @@ use Rattle.pim_mig.specs.Nodes.{made}
 use Rattle.pim_mig.specs.Values.{majority, mval, node_values}
 use Rattle.pim_mig.specs.declared.node.Maj.{Maj}
 use Rattle.pim_rewrite.specs.Passes.{after, flipped, flipped_by, inversions, moved_node, opposite, passed_from, plainly, Step, stepped}
-use Rattle.pim_rewrite.proofs.Frame.{AtNode, begun_count, bool_cases, front_both, front_refl, Grows, lit_front, lit_last, lits_count, none, operand_needed, output_needed, rest_front, after_front}
+use Rattle.pim_rewrite.proofs.Frame.{AtNode, begun_count, front_both, front_refl, Grows, lit_front, lit_last, lits_count, none, operand_needed, output_needed, rest_front}
 
 -- an old graph and a new one of as many inputs, by whose laws values are told
 pub record AreTwo (g t : MigView) (bits : List Bool) : Type 0 where
@@ -162,11 +162,11 @@ rest_values step g t bits st k (m ∷ rest) two grows keeps are len front v =
     let l = (stepped needed step st m).lit in
     let begins : IsFront next.nodes t.nodes = front_both next.nodes (passed_from step (is_needed g) next (suc n) rest).nodes t.nodes (rest_front step (is_needed g) next (suc n) rest grows) front in
     let value : is_needed g (length st.lits) ≡ true → mval t bits l ≡ mval g bits (plain (length st.lits)) = λ h.
-        let here : needed ≡ true = ap (is_needed g) (sym len) ∙ h in
-        let F : List Maj → Type 0 = λ xs. IsFront xs t.nodes in
-        ap (λ (b : Bool). mval t bits (stepped b step st m).lit) here
-        ∙ keeps.value st k m (at_rest g k m rest are here) len v (subst F (ap (λ (b : Bool). (stepped b step st m).nodes) here) begins)
-        ∙ ap (λ (j : ℕ). mval g bits (plain j)) (sym len) in
+    let here : needed ≡ true = ap (is_needed g) (sym len) ∙ h in
+    let F : List Maj → Type 0 = λ xs. IsFront xs t.nodes in
+    ap (λ (b : Bool). mval t bits (stepped b step st m).lit) here
+    ∙ keeps.value st k m (at_rest g k m rest are here) len v (subst F (ap (λ (b : Bool). (stepped b step st m).nodes) here) begins)
+    ∙ ap (λ (j : ℕ). mval g bits (plain j)) (sym len) in
     let at : suc n ≡ 1 + g.inputs + (k + 1) = omega arith in
     let G : ℕ → Type 0 = λ j. IsFront (passed_from step (is_needed g) next j rest).nodes t.nodes in
     let H : ℕ → Type 0 = λ j. AreValued g t bits (passed_from step (is_needed g) next j rest).lits in

@@ -1,15 +1,15 @@
 -- What a case is, by cases.
-use Rattle.std.proofs.Common.{◌≡◌, ◌≢◌, ◌⊎◌, ℕ, zero, suc, ◌+◌, ◌-◌, ◌*◌, ◌/◌, ◌%◌, ◌<◌, ◌≤◌, Bool, true, false, cond, eqb, ltb, not, ◌&&◌, ◌||◌, List, [], ◌∷◌, ◌++◌, length, get_or, map, Option, Some, None, refl, sym, ◌∙◌, ap, subst, arith, inl, inr}
-use Rattle.std.proofs.lemmas.Bool.Decides.{nat_tests, eqb_tells}
-use Rattle.pim_aig.specs.Literals.{node, plain}
+use Rattle.std.proofs.Common.{◌≡◌, ◌≢◌, ◌⊎◌, ℕ, ◌+◌, ◌-◌, ◌%◌, ◌<◌, Bool, true, false, cond, eqb, ltb, ◌&&◌, ◌||◌, List, [], ◌∷◌, Option, Some, None, refl, sym, ◌∙◌, ap, subst, arith, inl, inr}
+use Rattle.std.proofs.lemmas.Bool.Decides.{nat_tests}
+use Rattle.pim_aig.specs.Literals.{node}
 use Rattle.pim_aig.specs.declared.literal.Lit.{Lit}
 use Rattle.pim_mig.specs.Graph.{IsApart, IsMig, MigView}
 use Rattle.pim_mig.specs.Laws.{IsOperand}
-use Rattle.pim_mig.specs.Needs.{is_needed, is_single, named, reads, times}
+use Rattle.pim_mig.specs.Needs.{is_needed, is_single, named, reads}
 use Rattle.pim_mig.specs.declared.node.Maj.{Maj}
 use Rattle.pim_rewrite.specs.Cases.{case_of, first_of_two, has, is_spreadable, match_nodes, match_pair, node_at, other}
 use Rattle.pim_rewrite.specs.declared.cases.Case.{Case}
-use Rattle.pim_rewrite.proofs.Frame.{AtNode, bool_cases, is_positive, none, not_positive, ops, positive}
+use Rattle.pim_rewrite.proofs.Frame.{AtNode, bool_cases, is_positive, none}
 
 pub both : (a b : Bool) → (a && b) ≡ true → (a ≡ true) × (b ≡ true)
 both true b h = (refl, h)
@@ -97,16 +97,34 @@ turned m n h e = h (sym e)
 
 pub shares : (a b : Maj) (w : Lit) (c : Case) → IsApart a → Matches a b w c → Shares a b w c
 shares a b w c ap_a (at_xy p q e) = shares_at a b w c _ e (record {
-  s_first = inl refl; t_first = inr (inl refl); u_first = inr (inr refl);
-  s_second = has_operand b a.x p; t_second = has_operand b a.y q; v_second = refl; w_is = refl; apart = ap_a.first;
+  s_first = inl refl;
+  t_first = inr (inl refl);
+  u_first = inr (inr refl);
+  s_second = has_operand b a.x p;
+  t_second = has_operand b a.y q;
+  v_second = refl;
+  w_is = refl;
+  apart = ap_a.first;
 })
 shares a b w c ap_a (at_xz p q e) = shares_at a b w c _ e (record {
-  s_first = inl refl; t_first = inr (inr refl); u_first = inr (inl refl);
-  s_second = has_operand b a.x p; t_second = has_operand b a.z q; v_second = refl; w_is = refl; apart = ap_a.second;
+  s_first = inl refl;
+  t_first = inr (inr refl);
+  u_first = inr (inl refl);
+  s_second = has_operand b a.x p;
+  t_second = has_operand b a.z q;
+  v_second = refl;
+  w_is = refl;
+  apart = ap_a.second;
 })
 shares a b w c ap_a (at_yz p q e) = shares_at a b w c _ e (record {
-  s_first = inr (inl refl); t_first = inr (inr refl); u_first = inl refl;
-  s_second = has_operand b a.y p; t_second = has_operand b a.z q; v_second = refl; w_is = refl; apart = ap_a.third;
+  s_first = inr (inl refl);
+  t_first = inr (inr refl);
+  u_first = inl refl;
+  s_second = has_operand b a.y p;
+  t_second = has_operand b a.z q;
+  v_second = refl;
+  w_is = refl;
+  apart = ap_a.third;
 })
 
 abbrev pub pair_by : Option Case → ℕ → ℕ → List ℕ → List ℕ
@@ -165,7 +183,10 @@ view g m =
       | inr s ↦
           let p = pair_case g m.x m.y m.z s.0 s.1 in
           a_case m.x m.y m.z s.0 (record {
-            taken = xyz refl refl refl; first = p.first; second = p.second; match = p.match;
+            taken = xyz refl refl refl;
+            first = p.first;
+            second = p.second;
+            match = p.match;
             is = ap (λ (o : Option Case). first_of_two o (first_of_two xz yz)) s.1;
             pair = ap (λ (o : Option Case). pair_by o (node m.x) (node m.y) (pair_by xz (node m.x) (node m.z) (pair_by yz (node m.y) (node m.z) []))) s.1;
           })
@@ -176,7 +197,10 @@ view g m =
             | inr s ↦
                 let p = pair_case g m.x m.z m.y s.0 s.1 in
                 a_case m.x m.z m.y s.0 (record {
-                  taken = xzy refl refl refl; first = p.first; second = p.second; match = p.match;
+                  taken = xzy refl refl refl;
+                  first = p.first;
+                  second = p.second;
+                  match = p.match;
                   is = is_n ∙ ap (λ (o : Option Case). first_of_two o yz) s.1;
                   pair = pair_n ∙ ap (λ (o : Option Case). pair_by o (node m.x) (node m.z) (pair_by yz (node m.y) (node m.z) [])) s.1;
                 })
@@ -187,7 +211,10 @@ view g m =
                   | inr s ↦
                       let p = pair_case g m.y m.z m.x s.0 s.1 in
                       a_case m.y m.z m.x s.0 (record {
-                        taken = yzx refl refl refl; first = p.first; second = p.second; match = p.match;
+                        taken = yzx refl refl refl;
+                        first = p.first;
+                        second = p.second;
+                        match = p.match;
                         is = is_k ∙ s.1;
                         pair = pair_k ∙ ap (λ (o : Option Case). pair_by o (node m.y) (node m.z) []) s.1;
                       })

@@ -1,5 +1,5 @@
 -- The cases of a distribution pass: majorities that share two operands.
-use Rattle.std.specs.Prelude.{ℕ, suc, ◌+◌, ◌-◌, ◌/◌, ◌%◌, ◌==◌, ◌&&◌, ◌||◌, Bool, true, false, if◌then◌else◌, List, [], ◌∷◌, Option, Some, None, is_some, slice_index_or}
+use Rattle.std.specs.Prelude.{ℕ, suc, ◌+◌, ◌-◌, ◌%◌, ◌==◌, ◌&&◌, ◌||◌, Bool, false, if◌then◌else◌, List, [], ◌∷◌, Option, Some, None, is_some, slice_index_or}
 use Rattle.pim_aig.specs.Literals.{node}
 use Rattle.pim_aig.specs.declared.literal.Lit.{Lit}
 use Rattle.pim_mig.specs.Graph.{MigView}
@@ -7,7 +7,7 @@ use Rattle.pim_mig.specs.Majs.{Making, moved}
 use Rattle.pim_mig.specs.Needs.{is_needed, is_single}
 use Rattle.pim_mig.specs.Nodes.{made, Made}
 use Rattle.pim_mig.specs.declared.node.Maj.{Maj}
-use Rattle.pim_rewrite.specs.Passes.{moved_node, passed, plainly, Step}
+use Rattle.pim_rewrite.specs.Passes.{passed, plainly, Step}
 use Rattle.pim_rewrite.specs.declared.cases.Case.{Case}
 
 -- the node reads the literal

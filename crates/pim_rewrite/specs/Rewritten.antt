@@ -1,5 +1,5 @@
 -- The rewritten majority graph.
-use Rattle.std.specs.Prelude.{ℕ, zero, suc, Bool, true, false, length}
+use Rattle.std.specs.Prelude.{ℕ, zero, suc, true, false, length}
 use Rattle.pim_mig.specs.Graph.{MigView}
 use Rattle.pim_rewrite.specs.Cases.{distribute, has_case}
 use Rattle.pim_rewrite.specs.Passes.{copy, flip}

@@ -47,11 +47,29 @@ fn match_nodes(a: Maj, b: Maj, w: Lit) -> Option<Case>
 {
     let Maj { x, y, z } = a;
     if has(b, x) && has(b, y) {
-        Some(Case { s: x, t: y, u: z, v: other(b, x, y), w })
+        Some(Case {
+            s: x,
+            t: y,
+            u: z,
+            v: other(b, x, y),
+            w,
+        })
     } else if has(b, x) && has(b, z) {
-        Some(Case { s: x, t: z, u: y, v: other(b, x, z), w })
+        Some(Case {
+            s: x,
+            t: z,
+            u: y,
+            v: other(b, x, z),
+            w,
+        })
     } else if has(b, y) && has(b, z) {
-        Some(Case { s: y, t: z, u: x, v: other(b, y, z), w })
+        Some(Case {
+            s: y,
+            t: z,
+            u: x,
+            v: other(b, y, z),
+            w,
+        })
     } else {
         None
     }

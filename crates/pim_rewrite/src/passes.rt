@@ -161,7 +161,11 @@ fn inverted(literal: Lit) -> u32
     ensures count { result ≡ inverted literal }
     ensures few { result ≤ 1 }
 {
-    if literal.0 > 1 && literal.0 % 2 == 1 { 1 } else { 0 }
+    if literal.0 > 1 && literal.0 % 2 == 1 {
+        1
+    } else {
+        0
+    }
 }
 
 /// The node of the moved operands, or the complement of the node of their complements, where at least two of them are complemented.

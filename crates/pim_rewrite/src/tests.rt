@@ -61,10 +61,12 @@ fn becomes(alloc: Global, mig: &Mig, nodes: &[Maj], output: u32) -> Result<bool,
     let once = rewritten(alloc, mig)?;
     let twice = rewritten(alloc, &once)?;
     let outputs = [Lit(output)];
-    Ok(once.nodes() == nodes
-        && once.outputs() == outputs.as_slice()
-        && twice.nodes() == nodes
-        && twice.outputs() == outputs.as_slice())
+    Ok(
+        once.nodes() == nodes
+            && once.outputs() == outputs.as_slice()
+            && twice.nodes() == nodes
+            && twice.outputs() == outputs.as_slice(),
+    )
 }
 
 /// The exclusive or of two inputs, as a netlist of ANDs gives it: two complemented operands become a complemented output.

@@ -6,6 +6,7 @@ use Rattle.pim_isa.specs.Programs.{ProgramView}
 use Rattle.pim_words.specs.declared.command.Command.TheVariants as commands
 use Rattle.pim_top.specs.Programs.{IsProgramFile, program_of}
 use Rattle.pim_top.specs.commands.Asm.{AssemblesFine, asm_of}
+use Rattle.pim_top.specs.commands.Bench.{BenchAnswers}
 use Rattle.pim_top.specs.commands.Compile.{CompileAnswers, CompilesFine}
 use Rattle.pim_top.specs.commands.Convert.{convert_of}
 use Rattle.pim_top.specs.commands.Debug.{DebugsFine}
@@ -34,7 +35,7 @@ Answers (commands.Convert form) file input answer = answer ≡ convert_of form i
 Answers (commands.Imply cells) file input answer = ImplyAnswers cells input answer
 Answers (commands.Implyrun fill) file input answer = ⊥
 Answers (commands.Share cells) file input answer = ShareAnswers cells file input answer
-Answers command file input answer = ⊥
+Answers (commands.Bench bits) file input answer = BenchAnswers bits answer
 
 -- the program file is refused so, whatever the input is
 abbrev pub FileRefused : Command → List ℕ → Judgement → Type 0
@@ -67,7 +68,7 @@ IsFine (commands.Convert form) file input = IsProgramFile input
 IsFine (commands.Imply cells) file input = ImpliesFine cells input
 IsFine (commands.Implyrun fill) file input = ImplyrunsFine file input
 IsFine (commands.Share cells) file input = SharesFine cells file input
-IsFine command file input = ⊥
+IsFine (commands.Bench bits) file input = Unit {0}
 
 -- with bytes that it takes a command is done; or it tells that what it compares is not equal
 abbrev pub EndsFine : Command → Status → Type 0

@@ -1,4 +1,5 @@
 pub mod Asm
+pub mod Bench
 pub mod Compile
 pub mod Convert
 pub mod Debug

@@ -1,5 +1,6 @@
 //! The commands, one file each.
 pub mod asm;
+pub mod bench;
 pub mod compile;
 pub mod convert;
 pub mod debug;

@@ -15,6 +15,7 @@ ghost use Rattle.pim_top.specs.inner.Faultless.{IsComplete};
 
 use crate::Status;
 use crate::commands::asm::Asm;
+use crate::commands::bench::Bench;
 use crate::commands::compile::Compile;
 use crate::commands::convert::Convert;
 use crate::commands::debug::debug;
@@ -175,7 +176,7 @@ fn execute<P: Source, S: Source, K: Sink>(
         Command::Imply { cells } => write_text(alloc, &Imply { cells }, program, input, output),
         Command::Implyrun { fill } => implyrun(alloc, fill, program, input, output),
         Command::Share { cells } => write_text(alloc, &Share { cells }, program, input, output),
-        _ => Err(Refusal::NoMemory),
+        Command::Bench { bits } => write_text(alloc, &Bench { bits }, program, input, output),
     }
 }
 

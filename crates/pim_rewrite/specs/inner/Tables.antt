@@ -1,5 +1,5 @@
 -- Inner. What the tables of a reading tell of a graph, and bounds.
-use Rattle.std.specs.Prelude.{◌≡◌, ℕ, ◌<◌, ◌≤◌, Bool, true, false, List, [], ◌∷◌, length, Option, Some, None, slice_index_or}
+use Rattle.std.specs.Prelude.{◌≡◌, ℕ, ◌<◌, Bool, true, false, List, [], ◌∷◌, length, Option, Some, None, slice_index_or}
 use Rattle.pim_aig.specs.Graph.{IsOfFirst}
 use Rattle.pim_aig.specs.Literals.{node}
 use Rattle.pim_mig.specs.Graph.{MigView, size}

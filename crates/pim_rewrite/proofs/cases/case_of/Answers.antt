@@ -1,4 +1,4 @@
-use Rattle.std.proofs.Common.{◌≡◌, ◌∙◌, sym}
+use Rattle.std.proofs.Common.{◌∙◌, sym}
 use Rattle.pim_rewrite.proofs.Loops.{pair_before}
 use Rattle.pim_rewrite.proofs.cases.case_of.Goals as goal
 

@@ -1,4 +1,4 @@
-use Rattle.std.proofs.Common.{◌≡◌, ◌+◌, arith}
+use Rattle.std.proofs.Common.{arith}
 use Rattle.pim_rewrite.proofs.Frame.{none}
 use Rattle.pim_rewrite.proofs.Loops.{case_step}
 use Rattle.pim_rewrite.proofs.cases.has_case.Goals as goal

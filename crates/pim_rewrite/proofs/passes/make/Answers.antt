@@ -1,4 +1,4 @@
-use Rattle.std.proofs.Common.{List, map, sym, ◌∙◌, ap}
+use Rattle.std.proofs.Common.{List, map, ◌∙◌, ap}
 use Rattle.pim_aig.specs.declared.literal.Lit.{Lit}
 use Rattle.pim_mig.specs.Graph.{MigView}
 use Rattle.pim_mig.specs.Majs.{moved}

@@ -1,4 +1,4 @@
-use Rattle.std.proofs.Common.{◌≡◌, ◌+◌, ◌-◌, ◌*◌, ◌<◌, ◌≤◌, ℕ, drop, length, map, slice_index_or}
+use Rattle.std.proofs.Common.{◌≡◌, ◌+◌, ◌-◌, ◌<◌, ℕ, drop, length, map, slice_index_or}
 use Rattle.pim_aig.specs.Literals.{node}
 use Rattle.pim_mig.specs.Graph.{size}
 use Rattle.pim_mig.specs.Needs.{reads_from, times}

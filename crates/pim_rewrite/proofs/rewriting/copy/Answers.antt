@@ -1,4 +1,4 @@
-use Rattle.std.proofs.Common.{◌≡◌, ◌∙◌, ap}
+use Rattle.std.proofs.Common.{◌∙◌, ap}
 use Rattle.pim_rewrite.specs.Passes.{copy}
 use Rattle.pim_rewrite.proofs.NoMore.{copy_no_more}
 use Rattle.pim_rewrite.proofs.Settled.{copy_normal}

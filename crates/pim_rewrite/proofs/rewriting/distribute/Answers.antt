@@ -1,4 +1,3 @@
-use Rattle.std.proofs.Common.{◌≡◌}
 use Rattle.pim_rewrite.proofs.Gone.{spread_fewer}
 use Rattle.pim_rewrite.proofs.rewriting.distribute.Goals as goal
 

@@ -1,4 +1,4 @@
-use Rattle.std.proofs.Common.{◌≡◌, ◌+◌, [], List, length, refl, sym, ◌∙◌, ap, subst, arith}
+use Rattle.std.proofs.Common.{◌+◌, sym, ◌∙◌, ap, subst}
 use Rattle.pim_mig.specs.Graph.{MigView}
 use Rattle.pim_mig.specs.Majs.{begun}
 use Rattle.pim_mig.specs.Needs.{is_needed}

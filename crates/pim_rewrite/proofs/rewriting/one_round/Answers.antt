@@ -1,4 +1,4 @@
-use Rattle.std.proofs.Common.{◌≡◌, length, sym, ◌∙◌, ap, subst, arith}
+use Rattle.std.proofs.Common.{◌≡◌, sym, ◌∙◌, ap, subst, arith}
 use Rattle.pim_mig.specs.Graph.{MigView}
 use Rattle.pim_mig.specs.Needs.{needed_count}
 use Rattle.pim_rewrite.specs.Cases.{distribute}

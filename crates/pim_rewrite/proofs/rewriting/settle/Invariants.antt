@@ -1,8 +1,7 @@
-use Rattle.std.proofs.Common.{◌≡◌, ◌≤◌, ℕ}
+use Rattle.std.proofs.Common.{◌≡◌, ◌≤◌}
 use Rattle.pim_mig.specs.Needs.{needed_count}
 use Rattle.pim_rewrite.specs.Normal.{AreUpright, HasValues}
 use Rattle.pim_rewrite.specs.Rewritten.{rounds}
-use Rattle.pim_rewrite.specs.declared.rewriting.TheConstants.{MAX_REWRITTEN}
 use Rattle.pim_rewrite.proofs.rewriting.settle.Given as goal
 
 -- the rounds that are left come to the whole
