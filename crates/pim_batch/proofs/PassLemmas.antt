@@ -1,5 +1,5 @@
 -- Passes over the rows of a tile.
-use Rattle.std.proofs.Common.{◌≡◌, ℕ, zero, suc, ◌+◌, ◌-◌, ◌*◌, ◌/◌, ◌%◌, ◌<◌, ◌≤◌, ◌⊎◌, inl, inr, min, Bool, List, [], ◌∷◌, ◌++◌, length, take, drop, get_or, map, refl, sym, ap, subst, ◌∙◌, arith}
+use Rattle.std.proofs.Common.{◌≡◌, ℕ, zero, suc, ◌+◌, ◌-◌, ◌*◌, ◌/◌, ◌%◌, ◌<◌, ◌≤◌, inl, inr, min, Bool, List, [], ◌∷◌, ◌++◌, length, take, drop, get_or, map, refl, sym, ap, subst, ◌∙◌, arith}
 use Rattle.std.specs.List.{flat_map, range_with_len}
 use Rattle.std.proofs.lemmas.Bool.{cases_lt}
 use Rattle.std.proofs.lemmas.List.{append-nil, get_or-take, get_or-drop}
@@ -12,7 +12,7 @@ use Rattle.pim_isa.specs.Steps.{bit}
 use Rattle.pim_isa.specs.declared.target.Fill.{Fill}
 use Rattle.pim_lanes.specs.Banks.{BankView, row_of}
 use Rattle.pim_vectors.specs.Tiles.{TileView, vector_of}
-use Rattle.pim_imply.specs.Machines.{iexec, load}
+use Rattle.pim_imply.specs.Machines.{iexec}
 use Rattle.pim_imply.specs.Programs.{ImplyView, body_of}
 use Rattle.pim_batch.specs.ImplyBatches.{ImplyBatchView}
 use Rattle.pim_batch.specs.ImplyTables.{imply_line, imply_runner}

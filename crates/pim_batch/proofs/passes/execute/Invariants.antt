@@ -1,4 +1,4 @@
-use Rattle.std.proofs.Common.{◌≡◌, ◌-◌, ◌+◌, ◌*◌, ◌≤◌, ℕ, List, Option}
+use Rattle.std.proofs.Common.{◌≡◌, ◌-◌, ◌+◌, ◌*◌, ℕ, List, Option}
 use Rattle.pim_io.specs.Outside.{Wrote}
 use Rattle.pim_io.specs.Writes.{Written}
 use Rattle.pim_batch.specs.ImplyBatches.{IsRoom}

@@ -1,4 +1,4 @@
-use Rattle.std.proofs.Common.{◌≡◌, ℕ, ◌-◌, ◌+◌, ◌*◌, ◌<◌, Bool, length, set, take, drop, ap, sym, ◌∙◌, arith}
+use Rattle.std.proofs.Common.{◌≡◌, ◌-◌, ◌+◌, ◌*◌, ◌<◌, Bool, length, set, take, drop, ap, sym, ◌∙◌, arith}
 use Rattle.pim_io.specs.Lanes.{lane}
 use Rattle.pim_lanes.specs.Banks.{row_of}
 use Rattle.pim_batch.proofs.PassLemmas.{lane_part}
