@@ -7,9 +7,9 @@ pub(crate) const BLOCK: usize = 8;
 pub(crate) fn both(x: [u64; BLOCK], y: [u64; BLOCK]) -> [u64; BLOCK]
     ensures { (j : ℕ) → j < BLOCK → slice_index result j ≡ bit_and (slice_index x j) (slice_index y j) }
 {
-    let mut words = x;
+    let mut words = [0; BLOCK];
     for k in 0..BLOCK {
-        words[k] &= y[k];
+        words[k] = x[k] & y[k];
     }
     words
 }
@@ -18,9 +18,9 @@ pub(crate) fn both(x: [u64; BLOCK], y: [u64; BLOCK]) -> [u64; BLOCK]
 pub(crate) fn unlike(x: [u64; BLOCK], mask: u64) -> [u64; BLOCK]
     ensures { (j : ℕ) → j < BLOCK → slice_index result j ≡ bit_xor (slice_index x j) mask }
 {
-    let mut words = x;
+    let mut words = [0; BLOCK];
     for k in 0..BLOCK {
-        words[k] ^= mask;
+        words[k] = x[k] ^ mask;
     }
     words
 }
