@@ -19,7 +19,8 @@ use Rattle.pim_graph.specs.Orders.IsReached.{as_root, as_child}
 use Rattle.pim_graph.specs.Peaks.{IsPlaced}
 use Rattle.pim_rm3.specs.Costs.{is_made}
 use Rattle.pim_rm3.specs.Gates.{gate_graph, gates}
-use Rattle.pim_rm3.proofs.Walks.{IsPlainAnd, all_has, has_whole, kid_plain, not_input}
+use Rattle.pim_rm3.proofs.Lists.{all_has, has_whole}
+use Rattle.pim_rm3.proofs.Walks.{IsPlainAnd, kid_plain, not_input}
 
 eqb_turned : (a b : ℕ) → eqb a b ≡ eqb b a
 eqb_turned a b = grind (arith, nat_tests)
@@ -48,7 +49,7 @@ differs (y ∷ ys) x zero d none h = (or_none (eqb y x) (has ys x) none).0
 differs (y ∷ ys) x (suc k) d none h = differs ys x k d (or_none (eqb y x) (has ys x) none).1 (omega arith)
 
 -- an item is the same, whatever stands past the end
-get_or_same : (xs : List ℕ) (k d e : ℕ) → k < length xs → get_or xs k d ≡ get_or xs k e
+pub get_or_same : (xs : List ℕ) (k d e : ℕ) → k < length xs → get_or xs k d ≡ get_or xs k e
 get_or_same [] k d e h = absurd (omega arith)
 get_or_same (x ∷ xs) zero d e h = refl
 get_or_same (x ∷ xs) (suc k) d e h = get_or_same xs k d e (omega arith)

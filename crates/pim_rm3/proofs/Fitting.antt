@@ -20,11 +20,13 @@ use Rattle.pim_rm3.specs.Gates.{ands_read, gate_graph, gates, taken, taken_of}
 use Rattle.pim_rm3.specs.Schedules.{cell_of, gate_instrs, instrs_at, is_inverted, load, narrow, narrow_by, operand_of, schedule, set_to, settled}
 use Rattle.pim_rm3.specs.declared.gate.Gate.{Gate}
 use Rattle.pim_rm3.specs.declared.gate.Gate.TheVariants as gate
+use Rattle.pim_rm3.proofs.Lists.{all_has, has_whole, has_of_take}
 use Rattle.pim_rm3.proofs.GateKinds.{Kind, kind_of, kids_at, and_of, first_read, second_read, inverse_read}
 use Rattle.pim_rm3.proofs.GateKinds.Kind.{constant, inverse, input, meet}
 use Rattle.pim_rm3.proofs.GateOrders.{taken_map}
+use Rattle.pim_rm3.proofs.Stepping.{read_needed}
 use Rattle.pim_rm3.proofs.Rows.{bool_cases, load_is, narrow_by_is}
-use Rattle.pim_rm3.proofs.Walks.{IsSettled, all_has, has_whole, kid_needed, cell_input, cell_gate, none_some, option_cases, not_input}
+use Rattle.pim_rm3.proofs.Walks.{IsSettled, cell_input, cell_gate, none_some, option_cases, not_input}
 
 -- an operand is a constant, or a cell of the program other than the target
 abbrev pub FitsOperand : ℕ → ℕ → Operand → Type 0
@@ -115,15 +117,6 @@ record OperandFits (g : AigView) (a : AllotmentView) (p : ℕ) (e : Lit) : Type 
   within : 0 < e.0 / 2 → cell_of g.inputs a.cells e < a.width
   apart : taken g (get_or (gates g) p 0) ≡ None → 0 < e.0 / 2 → cell_of g.inputs a.cells e ≢ get_or a.cells (get_or (gates g) p 0) 0
 
-has_of_take : (xs : List ℕ) (p y : ℕ) → has (take p xs) y ≡ true → has xs y ≡ true
-has_of_take [] zero y h = absurd (false≢true h)
-has_of_take [] (suc p) y h = absurd (false≢true h)
-has_of_take (x ∷ xs) zero y h = absurd (false≢true h)
-has_of_take (x ∷ xs) (suc p) y h = elim (bool_cases (eqb x y)) [
-  | inl t ↦ ap (λ (b : Bool). b || has xs y) t
-  | inr f ↦ ap (λ (b : Bool). b || has xs y) f ∙ has_of_take xs p y (sym (ap (λ (b : Bool). b || has (take p xs) y) f) ∙ h)
-]
-
 operand_fits : (g : AigView) (a : AllotmentView) (p : ℕ) (e : Lit) → IsSettled g a → p < length (gates g) → (g.inputs < e.0 / 2 → has (kids_of (gate_graph g) (get_or (gates g) p 0)) (2 * (e.0 / 2)) ≡ true) → OperandFits g a p e
 operand_fits g a p e s h child =
     let xs = gates g in
@@ -143,7 +136,7 @@ operand_fits g a p e s h child =
           let cell = cell_gate g.inputs a.cells e b.1 in
           record {
             within = λ some. let w = s.allotted.within k (has_of_take xs p k before) in omega arith;
-            apart = λ none some same. s.allotted.apart p k h before (kid_needed g p k h kid) (λ o. none_some (taken g l) k none (sym (taken_map g p h) ∙ o)) (sym cell ∙ same);
+            apart = λ none some same. s.allotted.apart p k h before (read_needed (gate_graph g) (gates g) p k h kid) (λ o. none_some (taken g l) k none (sym (taken_map g p h) ∙ o)) (sym cell ∙ same);
           }
     ]
 

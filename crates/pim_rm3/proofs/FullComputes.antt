@@ -26,10 +26,11 @@ use Rattle.pim_rm3.specs.Temporaries.{full_graph, full_order, full_over, gate_nu
 use Rattle.pim_rm3.specs.declared.role.Role.{Role}
 use Rattle.pim_rm3.specs.declared.step.Step.{Step}
 use Rattle.pim_rm3.specs.declared.step.Step.TheVariants as step
+use Rattle.pim_rm3.proofs.Lists.{has_whole, has_of_take}
 use Rattle.pim_rm3.proofs.FullKids.{IsWanted, ReadsNode, node_vote, odd_or_even, reads_gate, reads_own, vote_node, wanted, few_none, odd_is}
 use Rattle.pim_rm3.proofs.FullKids.IsWanted.{for_first, for_second}
 use Rattle.pim_rm3.proofs.FullOrders.{AtGate, AtTemporary, after_is, flat, here_is, place}
-use Rattle.pim_rm3.proofs.FullSound.{IsOrdered, IsTaker, below, in_take, over_is, takeable, taker}
+use Rattle.pim_rm3.proofs.FullSound.{IsOrdered, IsTaker, below, over_is, takeable, taker}
 use Rattle.pim_rm3.proofs.FullValues.{IsRead, all_off, third_off, cells, constant_value, instrs_gate, instrs_of, instrs_temporary, operand_apart, operand_held, placing, plain_value, temporary_value, value_gate, value_of, value_temporary, vote_value}
 use Rattle.pim_rm3.proofs.RoleLaws.{least_in, one_temporary}
 use Rattle.pim_rm3.proofs.Rows.{at_target, bool_cases, lit_bit, lit_inverted, lit_same, load_gives, load_off, off_target, operand_value, set_gives, set_off}
@@ -37,7 +38,7 @@ use Rattle.pim_rm3.proofs.StepLaws.{IsOf, ReadsOne, StepKind, role_at, step_kind
 use Rattle.pim_rm3.proofs.StepLaws.ReadsOne.{by_first, by_second, by_third}
 use Rattle.pim_rm3.proofs.StepLaws.StepKind.{constant, inverse as inverted, input, vote}
 use Rattle.pim_rm3.proofs.Stepping.{Computes, IsSound, Placing, Reads, cell_at, gate_at, read_before, read_needed}
-use Rattle.pim_rm3.proofs.Walks.{has_whole, input_is, root_gate}
+use Rattle.pim_rm3.proofs.Walks.{input_is, root_gate}
 
 -- what is known of a graph, its order and its cells
 pub record IsReady (g : MigView) (a : AllotmentView) : Type 0 where
@@ -168,7 +169,7 @@ some_number z e h = let s : gate_number z.0 ≡ gate_number (2 * (e.0 / 2)) = cc
 none_some : (n : ℕ) → None ≡ Some n → ⊥
 none_some n h = cc
 
-zero_or_some : (n : ℕ) → (n ≡ 0) ⊎ (0 < n)
+pub zero_or_some : (n : ℕ) → (n ≡ 0) ⊎ (0 < n)
 zero_or_some zero = inl refl
 zero_or_some (suc n) = inr (omega arith)
 
@@ -254,7 +255,7 @@ temporary_off g a p l e t wants =
 pub temporary_within : (g : MigView) (a : AllotmentView) (p l : ℕ) (e : Lit) → VotePlace g a p l → temporary (role_at g l) ≡ Some e → get_or a.cells (2 * l) 0 < a.width
 temporary_within g a p l e t wants =
     let fl = full_order g in
-    t.ready.sound.allotted.within (2 * l) (in_take fl p (2 * l) (read_before (full_graph g) fl p (2 * l) t.ready.sound.placed t.within (temporary_read g a p l e t wants)))
+    t.ready.sound.allotted.within (2 * l) (has_of_take fl p (2 * l) (read_before (full_graph g) fl p (2 * l) t.ready.sound.placed t.within (temporary_read g a p l e t wants)))
 
 temporary_is : (g : MigView) (a : AllotmentView) (bits m : List Bool) (p l : ℕ) (e : Lit) → VoteAt g a bits m p l → temporary (role_at g l) ≡ Some e → TemporaryIs g a bits m l e
 temporary_is g a bits m p l e t wants = record {

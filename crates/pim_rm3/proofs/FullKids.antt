@@ -13,11 +13,11 @@ use Rattle.pim_rm3.specs.Temporaries.{full_graph, gate_number, gate_read, own_te
 use Rattle.pim_rm3.specs.declared.role.Role.{Role}
 use Rattle.pim_rm3.specs.declared.step.Step.{Step}
 use Rattle.pim_rm3.specs.declared.step.Step.TheVariants as step
+use Rattle.pim_rm3.proofs.Lists.{has_one, one_has, has_front, has_back, has_either}
 use Rattle.pim_rm3.proofs.Rows.{bool_cases}
-use Rattle.pim_rm3.proofs.StepLaws.{StepKind, step_kind, role_at, kids_at, gate_kids, temporary_kids, has_either, has_back, one_has, has_one, IsOf, node_of, of_node, gate_of_node, node_has_gate, ReadsOne, nodes_of, of_nodes, roles_read, read_roles}
+use Rattle.pim_rm3.proofs.StepLaws.{StepKind, step_kind, role_at, kids_at, gate_kids, temporary_kids, IsOf, node_of, of_node, gate_of_node, node_has_gate, ReadsOne, nodes_of, of_nodes, roles_read, read_roles}
 use Rattle.pim_rm3.proofs.StepLaws.StepKind.{constant, inverse, input, vote}
 use Rattle.pim_rm3.proofs.StepLaws.ReadsOne.{by_first, by_second, by_third}
-use Rattle.pim_rm3.proofs.Walks.{has_front}
 
 pub vote_reads : (g : MigView) (l : ℕ) → l % 2 ≡ 0 → g.inputs < l / 2 → gate_reads g l ≡ nodes_read g.inputs (maj_at g l)
 vote_reads g l even above =

@@ -10,12 +10,10 @@ use Rattle.pim_graph.specs.Peaks.{needed, read_by}
 use Rattle.pim_mig.specs.Graph.{MigView, size}
 use Rattle.pim_rm3.specs.Steps.{mig_graph, step_of}
 use Rattle.pim_rm3.specs.Temporaries.{full_graph, gate_number, own_temporary, step_takes, takes_of, temporary_of, temporary_takes, with_gate, with_temporary}
+use Rattle.pim_rm3.proofs.Lists.{or_true, split, has_here, has_one, one_has, has_front, has_back, has_either}
 use Rattle.pim_rm3.proofs.FullKids.{FullKid, full_kid, TemporaryKid, temporary_kid, ReadsNode, reads_gate}
 use Rattle.pim_rm3.proofs.FullKids.FullKid.{node_kid, own_kid}
-use Rattle.pim_rm3.proofs.GateKinds.{or_true}
 use Rattle.pim_rm3.proofs.Rows.{bool_cases}
-use Rattle.pim_rm3.proofs.StepLaws.{has_back, has_either, has_one, one_has}
-use Rattle.pim_rm3.proofs.Walks.{has_front, split}
 
 -- gates with their temporaries
 abbrev pub flat : MigView → List ℕ → List ℕ
@@ -120,9 +118,6 @@ after_is fl rest p x h e = ap (λ (ys : List ℕ). drop 1 ys) (sym (drop_more fl
 pub own_only : (l n : ℕ) (o : Option Lit) → has (own_temporary l o) n ≡ true → n ≡ 2 * l
 own_only l n None h = absurd (false≢true h)
 own_only l n (Some e) h = sym (has_one (2 * l) n h)
-
-pub has_here : (x y : ℕ) (xs : List ℕ) → x ≡ y → has (x ∷ xs) y ≡ true
-has_here x y xs h = let e : eqb x y ≡ true = grind (arith, nat_tests) in ap (λ (b : Bool). b || has xs y) e
 
 pub has_flat : (g : MigView) (xs : List ℕ) (l n : ℕ) → (n ≡ gate_number l) ⊎ (n ≡ 2 * l) → has (flat g xs) n ≡ true → has xs l ≡ true
 has_flat g [] l n k h = absurd (false≢true h)

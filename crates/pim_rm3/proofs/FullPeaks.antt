@@ -10,11 +10,9 @@ use Rattle.pim_graph.specs.Peaks.{needed, peak, peak_from, read_by}
 use Rattle.pim_mig.specs.Graph.{MigView, size}
 use Rattle.pim_rm3.specs.Steps.{enough_of, mig_gates, mig_graph, step_of}
 use Rattle.pim_rm3.specs.Temporaries.{full_graph, full_order, gate_number, own_temporary, temporary_of, with_temporary}
-use Rattle.pim_rm3.proofs.FullOrders.{flat, has_here, needed_alone, temporary_needed}
+use Rattle.pim_rm3.proofs.Lists.{or_true, or_more, split, has_here, has_front, has_back, has_either}
+use Rattle.pim_rm3.proofs.FullOrders.{flat, needed_alone, temporary_needed}
 use Rattle.pim_rm3.proofs.FullSound.{IsOrdered, below, no_true}
-use Rattle.pim_rm3.proofs.GateKinds.{or_true}
-use Rattle.pim_rm3.proofs.StepLaws.{has_back, has_either}
-use Rattle.pim_rm3.proofs.Walks.{has_front, last, or_more, split}
 
 -- no gate stands twice in both lists together
 abbrev Apart : List ℕ → List ℕ → Type 0

@@ -34,10 +34,11 @@ use Rattle.pim_rm3.specs.Temporaries.{full_graph, full_order, full_over, gate_nu
 use Rattle.pim_rm3.specs.declared.role.Role.{Role}
 use Rattle.pim_rm3.specs.declared.step.Step.{Step}
 use Rattle.pim_rm3.specs.declared.step.Step.TheVariants as step
+use Rattle.pim_rm3.proofs.Lists.{has_whole}
 use Rattle.pim_rm3.proofs.Counts.{load_length, ports_hold, sum_same}
 use Rattle.pim_rm3.proofs.Finished.{input_cells, ports_within, range_distinct, range_within}
 use Rattle.pim_rm3.proofs.Fitting.{Fits, FitsOperand, all_flat, all_get, fits_load, fits_operand, fits_set, fits_valid, fits_writes, inverted_some, one_fits}
-use Rattle.pim_rm3.proofs.FullComputes.{IsReady, VoteAt, VotePlace, not_input, not_both, operand_off, read_at, role_operands, temporary_off, temporary_within, third_other, vote_is}
+use Rattle.pim_rm3.proofs.FullComputes.{IsReady, VoteAt, VotePlace, not_input, not_both, operand_off, read_at, role_operands, temporary_off, temporary_within, third_other, vote_is, zero_or_some}
 use Rattle.pim_rm3.proofs.FullKids.{ReadsNode, inverse_reads, reads_gate, reads_own, vote_node}
 use Rattle.pim_rm3.proofs.FullOrders.{AtGate, AtTemporary, flat, flat_has, here_is, place, roots_into}
 use Rattle.pim_rm3.proofs.FullSound.{below}
@@ -47,14 +48,10 @@ use Rattle.pim_rm3.proofs.StepLaws.{IsOf, ReadsOne, StepKind, kids_at, node_has_
 use Rattle.pim_rm3.proofs.StepLaws.ReadsOne.{by_first, by_second, by_third}
 use Rattle.pim_rm3.proofs.StepLaws.StepKind.{constant, inverse as inverted, input, vote}
 use Rattle.pim_rm3.proofs.Stepping.{Computes, HoldsAt, Reads, all_held, cell_at, gate_at}
-use Rattle.pim_rm3.proofs.Walks.{has_whole, input_means, le_same, roots_have}
+use Rattle.pim_rm3.proofs.Walks.{input_means, le_same, roots_have}
 
 none_some : (n : ℕ) → None ≡ Some n → ⊥
 none_some n h = cc
-
-zero_or_some : (n : ℕ) → (n ≡ 0) ⊎ (0 < n)
-zero_or_some zero = inl refl
-zero_or_some (suc n) = inr (omega arith)
 
 -- the cells of the literals' gates, where the gates and temporaries have these
 abbrev held_cells : MigView → List ℕ → List ℕ

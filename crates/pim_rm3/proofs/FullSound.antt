@@ -15,18 +15,18 @@ use Rattle.pim_rm3.specs.Temporaries.{full_graph, full_order, full_over, gate_nu
 use Rattle.pim_rm3.specs.declared.role.Role.{Role}
 use Rattle.pim_rm3.specs.declared.step.Step.{Step}
 use Rattle.pim_rm3.specs.declared.step.Step.TheVariants as step
+use Rattle.pim_rm3.proofs.Lists.{all_has, or_true, split, last, has_whole, has_here, one_has, has_front, has_back, has_either, in_drop}
+use Rattle.pim_rm3.proofs.Bounds.{get_or_same}
 use Rattle.pim_rm3.proofs.FullKids.{FullKid, full_kid, TemporaryKid, temporary_kid, ReadsNode, reads_gate, reads_own, vote_third}
 use Rattle.pim_rm3.proofs.FullKids.FullKid.{node_kid, own_kid}
-use Rattle.pim_rm3.proofs.FullOrders.{flat, overs, AtGate, AtTemporary, Place, place, here_is, after_is, own_only, has_here, has_flat, flat_has, needed_alone, needed_with, temporary_needed}
-use Rattle.pim_rm3.proofs.GateKinds.{or_true}
+use Rattle.pim_rm3.proofs.FullOrders.{flat, overs, AtGate, AtTemporary, Place, place, here_is, after_is, own_only, has_flat, flat_has, needed_alone, needed_with, temporary_needed}
 use Rattle.pim_rm3.proofs.GateOrders.{and_both, has-occurrences, is_eq, is_lt, lt_none, lt_some, not_true, or_lt, reads_drop, some_same}
 use Rattle.pim_rm3.proofs.RoleLaws.{least_in}
 use Rattle.pim_rm3.proofs.Rows.{bool_cases}
-use Rattle.pim_rm3.proofs.StepLaws.{StepKind, step_kind, role_at, full_count, has_back, kids_count, has_either, has_one, one_has, IsOf, of_nodes, kids_at, ReadsOne}
+use Rattle.pim_rm3.proofs.StepLaws.{StepKind, step_kind, role_at, full_count, order_there, IsOf, of_nodes, kids_at, ReadsOne}
 use Rattle.pim_rm3.proofs.StepLaws.StepKind.{constant, inverse, input, vote}
 use Rattle.pim_rm3.proofs.StepLaws.ReadsOne.{by_third}
 use Rattle.pim_rm3.proofs.Stepping.{read_before}
-use Rattle.pim_rm3.proofs.Walks.{all_has, has_front, has_whole, last, split}
 
 -- what is known of the order without temporaries
 pub record IsOrdered (g : MigView) : Type 0 where
@@ -34,35 +34,13 @@ pub record IsOrdered (g : MigView) : Type 0 where
   pub there : All (λ l. l < 2 * size g) (mig_gates g)
   pub needs : (p : ℕ) → p < length (mig_gates g) → needed (mig_graph g) (drop (p + 1) (mig_gates g)) (get_or (mig_gates g) p 0) ≡ true
 
-get_or_same_zero : (xs : List ℕ) (k d : ℕ) → k < length xs → get_or xs k 0 ≡ get_or xs k d
-get_or_same_zero [] k d h = absurd (omega arith)
-get_or_same_zero (x ∷ xs) zero d h = refl
-get_or_same_zero (x ∷ xs) (suc k) d h = get_or_same_zero xs k d (omega arith)
-
 -- what the orders of graphs give
 pub ordered : (g : MigView) → IsPlaced (mig_graph g) (mig_gates g) → ((p : ℕ) → p < length (mig_gates g) → needed (mig_graph g) (drop (p + 1) (mig_gates g)) (get_or (mig_gates g) p 0) ≡ true) → IsOrdered g
-ordered g placed needs =
-    let P : ℕ → Type 0 = λ n. All (λ l. l < n) (mig_gates g) in
-    record { placed = placed; there = subst P (kids_count g) placed.there; needs = needs }
+ordered g placed needs = record { placed = placed; there = order_there g placed; needs = needs }
 
 -- all of a list is so where each that the list has is so
 pub all_from : (P : ℕ → Type 0) (xs : List ℕ) → ((x : ℕ) → has xs x ≡ true → P x) → All P xs
-all_from P xs h = λ k d b. subst P (get_or_same_zero xs k d b) (h (get_or xs k 0) (has_whole xs k b))
-
-pub in_take : (xs : List ℕ) (p y : ℕ) → has (take p xs) y ≡ true → has xs y ≡ true
-in_take [] zero y h = absurd (false≢true h)
-in_take [] (suc p) y h = absurd (false≢true h)
-in_take (x ∷ xs) zero y h = absurd (false≢true h)
-in_take (x ∷ xs) (suc p) y h = elim (bool_cases (eqb x y)) [
-  | inl t ↦ ap (λ (b : Bool). b || has xs y) t
-  | inr f ↦ or_true (eqb x y) (has xs y) (in_take xs p y (sym (ap (λ (b : Bool). b || has (take p xs) y) f) ∙ h))
-]
-
-pub in_drop : (xs : List ℕ) (p y : ℕ) → has (drop p xs) y ≡ true → has xs y ≡ true
-in_drop [] zero y h = absurd (false≢true h)
-in_drop [] (suc p) y h = absurd (false≢true h)
-in_drop (x ∷ xs) zero y h = h
-in_drop (x ∷ xs) (suc p) y h = or_true (eqb x y) (has xs y) (in_drop xs p y h)
+all_from P xs h = λ k d b. subst P (get_or_same xs k 0 d b) (h (get_or xs k 0) (has_whole xs k b))
 
 -- the gates of the order are literals of the graph
 pub below : (g : MigView) (l : ℕ) → IsOrdered g → has (mig_gates g) l ≡ true → l < 2 * size g

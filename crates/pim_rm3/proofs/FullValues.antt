@@ -29,11 +29,11 @@ use Rattle.pim_rm3.specs.Temporaries.{full_graph, full_order, full_over, gate_nu
 use Rattle.pim_rm3.specs.declared.role.Role.{Role}
 use Rattle.pim_rm3.specs.declared.step.Step.{Step}
 use Rattle.pim_rm3.specs.declared.step.Step.TheVariants as step
-use Rattle.pim_rm3.proofs.FullSound.{in_take}
-use Rattle.pim_rm3.proofs.GateKinds.{lit_value}
+use Rattle.pim_rm3.proofs.Lists.{has_whole, has_of_take}
+use Rattle.pim_rm3.proofs.GateKinds.{lit_value, literal_constant, literal_plain}
 use Rattle.pim_rm3.proofs.Rows.{at_target, bool_cases, lit_bit, lit_inverted, lit_same, load_gives, load_off, off_target, operand_value, set_gives, set_off}
 use Rattle.pim_rm3.proofs.Stepping.{Placing, IsSound, Reads, gate_at, cell_at, read_before, read_needed}
-use Rattle.pim_rm3.proofs.Walks.{cell_gate, cell_input, has_whole}
+use Rattle.pim_rm3.proofs.Walks.{cell_gate, cell_input}
 
 -- the gates and temporaries of a graph with these cells
 abbrev pub placing : MigView → AllotmentView → Placing
@@ -93,10 +93,6 @@ value_temporary g bits l =
     ∙ ap (λ (k : ℕ). temporary_value g bits (temporary_of (step_of g k))) half
 
 -- ---- values of literals
-sign_false : (b : Bool) → cond b (not false) false ≡ b
-sign_false true = refl
-sign_false false = refl
-
 pub zero_value : (g : MigView) (bits : List Bool) → MajorityLaws g → get_or (node_values g bits) 0 false ≡ false
 zero_value g bits laws = sym (laws.plains (node_values g bits) 0) ∙ laws.constant bits
 
@@ -105,26 +101,11 @@ input_value g bits n laws len some few =
     let e : 1 + (n - 1) ≡ n = omega arith in
     ap (λ (k : ℕ). get_or (node_values g bits) k false) (sym e) ∙ sym (laws.plains (node_values g bits) (1 + (n - 1))) ∙ laws.inputs bits (n - 1) len (omega arith)
 
--- a plain literal's value is its node's
 pub plain_value : (g : MigView) (bits : List Bool) (l : ℕ) → l % 2 ≡ 0 → mval g bits (record { 0 = l }) ≡ get_or (node_values g bits) (l / 2) false
-plain_value g bits l even =
-    let t : eqb (l % 2) 1 ≡ false = grind (arith, nat_tests) in
-    ap (λ (b : Bool). cond b (not (get_or (node_values g bits) (l / 2) false)) (get_or (node_values g bits) (l / 2) false)) t
-
-inverse_value : (g : MigView) (bits : List Bool) (e : Lit) → mval g bits (inverse e) ≡ not (get_or (node_values g bits) (e.0 / 2) false)
-inverse_value g bits e =
-    let l = 2 * (e.0 / 2) + 1 in
-    let odd : l % 2 ≡ 1 = omega arith in
-    let half : l / 2 ≡ e.0 / 2 = omega arith in
-    let t : eqb (l % 2) 1 ≡ true = grind (arith, nat_tests) in
-    ap (λ (b : Bool). cond b (not (get_or (node_values g bits) (l / 2) false)) (get_or (node_values g bits) (l / 2) false)) t
-    ∙ ap (λ (k : ℕ). not (get_or (node_values g bits) k false)) half
+plain_value g bits l even = literal_plain (node_values g bits) l even
 
 pub constant_value : (g : MigView) (bits : List Bool) (l : ℕ) → MajorityLaws g → l / 2 ≡ 0 → mval g bits (record { 0 = l }) ≡ eqb l 1
-constant_value g bits l laws z =
-    let t : eqb (l % 2) 1 ≡ eqb l 1 = ap (λ (k : ℕ). eqb k 1) (let e : l % 2 ≡ l = omega arith in e) in
-    ap (λ (b : Bool). cond (eqb (l % 2) 1) (not b) b) (ap (λ (k : ℕ). get_or (node_values g bits) k false) z ∙ zero_value g bits laws)
-    ∙ sign_false (eqb (l % 2) 1) ∙ t
+constant_value g bits l laws z = literal_constant (node_values g bits) l (zero_value g bits laws) z
 
 pub vote_value : (g : MigView) (bits : List Bool) (l : ℕ) → MajorityLaws g → length bits ≡ g.inputs → l < 2 * size g → l % 2 ≡ 0 → g.inputs < l / 2 → mval g bits (record { 0 = l }) ≡ mig_majority (mval g bits (maj_at g l).x) (mval g bits (maj_at g l).y) (mval g bits (maj_at g l).z)
 vote_value g bits l laws len there even above =
@@ -164,7 +145,7 @@ operand_within g a p e s h there child some = elim (leb_tells (e.0 / 2) g.inputs
   | inr b ↦
       let n = gate_number (2 * (e.0 / 2)) in
       let c = operand_cell g a e there b.1 in
-      let w = s.allotted.within n (in_take (full_order g) p n (read_before (full_graph g) (full_order g) p n s.placed h (child b.1))) in
+      let w = s.allotted.within n (has_of_take (full_order g) p n (read_before (full_graph g) (full_order g) p n s.placed h (child b.1))) in
       omega arith
 ]
 

@@ -13,6 +13,7 @@ use Rattle.pim_isa.specs.Steps.{bit}
 use Rattle.pim_rm3.specs.Gates.{ands_read, gate_graph, gate_of, with_and}
 use Rattle.pim_rm3.specs.Schedules.{cell_of}
 use Rattle.pim_rm3.specs.declared.gate.Gate.TheVariants as gate
+use Rattle.pim_rm3.proofs.Lists.{last, has_front}
 use Rattle.pim_rm3.proofs.Rows.{bool_cases, lit_bit}
 
 -- an AND node by its place, with node 0 as both operands past the end
@@ -44,21 +45,6 @@ kind_of g l = elim (eqb_tells (l / 2) 0) [
 pub kids_at : (g : AigView) (l : ℕ) → l < 2 * nodes g → kids_of (gate_graph g) l ≡ ands_read g (gate_of g l)
 kids_at g l h = get_or-map-range_with_len (λ k. ands_read g (gate_of g k)) 0 (2 * nodes g) l l [] h (omega arith)
 
-pub or_true : (b c : Bool) → c ≡ true → (b || c) ≡ true
-or_true true c h = refl
-or_true false c h = h
-
-has_last : (xs : List ℕ) (k : ℕ) → has (xs ++ k ∷ []) k ≡ true
-has_last [] k = let e : eqb k k ≡ true = grind (arith, nat_tests) in ap (λ (b : Bool). b || false) e
-has_last (x ∷ xs) k = or_true (eqb x k) (has (xs ++ k ∷ []) k) (has_last xs k)
-
-has_front : (xs ys : List ℕ) (k : ℕ) → has xs k ≡ true → has (xs ++ ys) k ≡ true
-has_front [] ys k h = absurd (false≢true h)
-has_front (x ∷ xs) ys k h = elim (bool_cases (eqb x k)) [
-  | inl t ↦ ap (λ (b : Bool). b || has (xs ++ ys) k) t
-  | inr f ↦ or_true (eqb x k) (has (xs ++ ys) k) (has_front xs ys k (sym (ap (λ (b : Bool). b || has xs k) f) ∙ h))
-]
-
 -- the AND node of a literal is among those that a gate with this operand reads
 with_and_has : (g : AigView) (gs : List ℕ) (e : Lit) → g.inputs < e.0 / 2 → has (with_and g gs e) (2 * (e.0 / 2)) ≡ true
 with_and_has g gs e h =
@@ -67,7 +53,7 @@ with_and_has g gs e h =
     let opened : with_and g gs e ≡ cond (has gs k) gs (gs ++ k ∷ []) = ap (λ (b : Bool). cond b (cond (has gs k) gs (gs ++ k ∷ [])) gs) lt in
     elim (bool_cases (has gs k)) [
       | inl t ↦ ap (λ (xs : List ℕ). has xs k) (opened ∙ ap (λ (b : Bool). cond b gs (gs ++ k ∷ [])) t) ∙ t
-      | inr f ↦ ap (λ (xs : List ℕ). has xs k) (opened ∙ ap (λ (b : Bool). cond b gs (gs ++ k ∷ [])) f) ∙ has_last gs k
+      | inr f ↦ ap (λ (xs : List ℕ). has xs k) (opened ∙ ap (λ (b : Bool). cond b gs (gs ++ k ∷ [])) f) ∙ last gs k
     ]
 
 with_and_keeps : (g : AigView) (gs : List ℕ) (e : Lit) (k : ℕ) → has gs k ≡ true → has (with_and g gs e) k ≡ true
@@ -108,10 +94,20 @@ lit_value ins values cells m e none held = elim (eqb_tells (e.0 / 2) 0) [
 ]
 
 -- a plain literal's value is its node's
-pub plain_value : (g : AigView) (bits : List Bool) (l : ℕ) → l % 2 ≡ 0 → aval g bits (record { 0 = l }) ≡ node_value g bits (l / 2)
-plain_value g bits l even =
+pub literal_plain : (values : List Bool) (l : ℕ) → l % 2 ≡ 0 → literal_value values (record { 0 = l }) ≡ get_or values (l / 2) false
+literal_plain values l even =
     let t : eqb (l % 2) 1 ≡ false = grind (arith, nat_tests) in
-    ap (λ (b : Bool). cond b (not (node_value g bits (l / 2))) (node_value g bits (l / 2))) t
+    ap (λ (b : Bool). cond b (not (get_or values (l / 2) false)) (get_or values (l / 2) false)) t
+
+-- a constant's value, where node 0 is false
+pub literal_constant : (values : List Bool) (l : ℕ) → get_or values 0 false ≡ false → l / 2 ≡ 0 → literal_value values (record { 0 = l }) ≡ eqb l 1
+literal_constant values l none z =
+    let t : eqb (l % 2) 1 ≡ eqb l 1 = ap (λ (k : ℕ). eqb k 1) (let e : l % 2 ≡ l = omega arith in e) in
+    ap (λ (b : Bool). cond (eqb (l % 2) 1) (not b) b) (ap (λ (n : ℕ). get_or values n false) z ∙ none)
+    ∙ sign_false (eqb (l % 2) 1) ∙ t
+
+pub plain_value : (g : AigView) (bits : List Bool) (l : ℕ) → l % 2 ≡ 0 → aval g bits (record { 0 = l }) ≡ node_value g bits (l / 2)
+plain_value g bits l even = literal_plain (node_values g bits) l even
 
 pub zero_value : (g : AigView) (bits : List Bool) → ValueLaws g → node_value g bits 0 ≡ false
 zero_value g bits laws = sym (laws.plains (node_values g bits) 0) ∙ laws.constant bits
@@ -130,9 +126,5 @@ meet_value g bits l laws len there even above =
     ∙ sym (laws.plains (node_values g bits) (1 + g.inputs + k))
     ∙ laws.ands bits k (record { x = record { 0 = 0 }; y = record { 0 = 0 } }) len (omega arith)
 
--- a constant's value
 pub constant_value : (g : AigView) (bits : List Bool) (l : ℕ) → ValueLaws g → l / 2 ≡ 0 → aval g bits (record { 0 = l }) ≡ eqb l 1
-constant_value g bits l laws z =
-    let t : eqb (l % 2) 1 ≡ eqb l 1 = ap (λ (k : ℕ). eqb k 1) (let e : l % 2 ≡ l = omega arith in e) in
-    ap (λ (b : Bool). cond (eqb (l % 2) 1) (not b) b) (ap (node_value g bits) z ∙ zero_value g bits laws)
-    ∙ sign_false (eqb (l % 2) 1) ∙ t
+constant_value g bits l laws z = literal_constant (node_values g bits) l (zero_value g bits laws) z

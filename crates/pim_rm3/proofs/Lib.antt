@@ -7,6 +7,7 @@ pub mod Fitting
 pub mod GateKinds
 pub mod GateOrders
 pub mod Rows
+pub mod Lists
 pub mod Walks
 pub mod Stepping
 pub mod RoleLaws
@@ -18,3 +19,4 @@ pub mod FullPeaks
 pub mod FullValues
 pub mod FullComputes
 pub mod FullPrograms
+mod SmartExamples

@@ -6,20 +6,21 @@ use Rattle.std.proofs.lemmas.List.Elements.{All-append, All-cons}
 use Rattle.std.proofs.lemmas.List.FromFn.{get_or-map-range_with_len, length-map-range_with_len}
 use Rattle.pim_aig.specs.declared.literal.Lit.{Lit}
 use Rattle.pim_graph.specs.Graphs.{GraphView, has, kids_of}
+use Rattle.pim_graph.specs.Orders.{order}
+use Rattle.pim_graph.specs.Peaks.{IsPlaced}
 use Rattle.pim_mig.specs.Graph.{IsMig, MigView, size}
 use Rattle.pim_mig.specs.declared.node.Maj.{Maj}
 use Rattle.pim_rm3.specs.Roles.{is_plain, least_role, role, temporary}
 use Rattle.pim_rm3.specs.Schedules.{is_inverted}
-use Rattle.pim_rm3.specs.Steps.{can_be_taken, gate_reads, maj_at, mig_graph, node_read, nodes_read, step_of, voted}
+use Rattle.pim_rm3.specs.Steps.{can_be_taken, gate_reads, maj_at, mig_gates, mig_graph, node_read, nodes_read, step_of, voted}
 use Rattle.pim_rm3.specs.Temporaries.{all_reads, full_graph, gate_number, gate_read, own_temporary, step_reads, temporary_of, temporary_reads}
 use Rattle.pim_rm3.specs.inner.Operands.{IsBelow, StepsBelow}
 use Rattle.pim_rm3.specs.declared.role.Role.{Role}
 use Rattle.pim_rm3.specs.declared.step.Step.{Step}
 use Rattle.pim_rm3.specs.declared.step.Step.TheVariants as step
-use Rattle.pim_rm3.proofs.GateKinds.{or_true}
+use Rattle.pim_rm3.proofs.Lists.{has_one, one_has, has_front, has_back, has_either}
 use Rattle.pim_rm3.proofs.RoleLaws.{least_in}
 use Rattle.pim_rm3.proofs.Rows.{bool_cases}
-use Rattle.pim_rm3.proofs.Walks.{has_front, split}
 
 -- the four ways in which the gate of a literal is computed
 pub data StepKind (g : MigView) (l : ℕ) : Type 0 where
@@ -75,30 +76,6 @@ temporary_kids g l h =
     full_at g (2 * l) (omega arith)
     ∙ ap (λ (b : Bool). cond b (step_reads g.inputs ((2 * l) / 2) (step_of g ((2 * l) / 2))) (temporary_reads g.inputs (temporary_of (step_of g ((2 * l) / 2))))) even
     ∙ ap (λ (k : ℕ). temporary_reads g.inputs (temporary_of (step_of g k))) half
-
-pub has_one : (x y : ℕ) → has (x ∷ []) y ≡ true → x ≡ y
-has_one x y h = elim (eqb_tells x y) [
-  | inl t ↦ t.1
-  | inr f ↦ absurd (false≢true (sym (ap (λ (b : Bool). b || false) f.0) ∙ h))
-]
-
-pub one_has : (x y : ℕ) → x ≡ y → has (x ∷ []) y ≡ true
-one_has x y h = let e : eqb x y ≡ true = grind (arith, nat_tests) in ap (λ (b : Bool). b || false) e
-
--- one of two lists has what both together have
-pub has_either : (xs ys : List ℕ) (k : ℕ) → has (xs ++ ys) k ≡ true → (has xs k ≡ true) ⊎ (has ys k ≡ true)
-has_either [] ys k h = inr h
-has_either (x ∷ xs) ys k h = elim (bool_cases (eqb x k)) [
-  | inl t ↦ inl (ap (λ (b : Bool). b || has xs k) t)
-  | inr f ↦ elim (has_either xs ys k (sym (ap (λ (b : Bool). b || has (xs ++ ys) k) f) ∙ h)) [
-    | inl a ↦ inl (ap (λ (b : Bool). b || has xs k) f ∙ a)
-    | inr b ↦ inr b
-  ]
-]
-
-pub has_back : (xs ys : List ℕ) (k : ℕ) → has ys k ≡ true → has (xs ++ ys) k ≡ true
-has_back [] ys k h = h
-has_back (x ∷ xs) ys k h = or_true (eqb x k) (has (xs ++ ys) k) (has_back xs ys k h)
 
 -- the operand is of this majority node
 pub record IsOf (inputs : ℕ) (e : Lit) (k : ℕ) : Type 0 where
@@ -370,3 +347,14 @@ either_few false xs ys h k = k
 -- a gate or a temporary reads four gates at most
 pub full_few : (g : MigView) (n : ℕ) → length (all_reads g n) ≤ 4
 full_few g n = either_few (eqb (n % 2) 1) (step_reads g.inputs (n / 2) (step_of g (n / 2))) (temporary_reads g.inputs (temporary_of (step_of g (n / 2)))) (step_few g.inputs (n / 2) (step_of g (n / 2))) (temporary_few g.inputs (temporary_of (step_of g (n / 2))))
+
+-- ---- what the order of the graph gives
+pub order_placed : (g : MigView) (v : GraphView) → v ≡ mig_graph g → IsPlaced v (order v) → IsPlaced (mig_graph g) (mig_gates g)
+order_placed g v is h =
+    let P : GraphView → Type 0 = λ w. IsPlaced w (order w) in
+    subst P is h
+
+pub order_there : (g : MigView) → IsPlaced (mig_graph g) (mig_gates g) → All (λ l. l < 2 * size g) (mig_gates g)
+order_there g h =
+    let P : ℕ → Type 0 = λ n. All (λ l. l < n) (mig_gates g) in
+    subst P (kids_count g) h.there

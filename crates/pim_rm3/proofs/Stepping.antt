@@ -9,7 +9,7 @@ use Rattle.pim_graph.specs.Peaks.{IsPlaced, needed, read_by}
 use Rattle.pim_isa.specs.Laws.{ExecLaws}
 use Rattle.pim_isa.specs.Steps.{bit, exec}
 use Rattle.pim_isa.specs.declared.instr.Instr.{Instr}
-use Rattle.pim_rm3.proofs.Walks.{all_has, has_whole, or_more, split}
+use Rattle.pim_rm3.proofs.Lists.{all_has, or_more, split, has_whole}
 
 -- gates in an order with their cells
 pub record Placing : Type 0 where

@@ -22,36 +22,13 @@ use Rattle.pim_rm3.specs.Gates.{ands_read, gate_graph, gate_of, gates, is_input,
 use Rattle.pim_rm3.specs.Schedules.{cell_of, gate_instrs, instrs_at, load, narrow, output_cell, schedule}
 use Rattle.pim_rm3.specs.declared.gate.Gate.{Gate}
 use Rattle.pim_rm3.specs.declared.gate.Gate.TheVariants as gate
+use Rattle.pim_rm3.proofs.Lists.{all_has, split, last, has_whole, has_front}
 use Rattle.pim_rm3.proofs.GateKinds.{Kind, kind_of, kids_at, and_of, first_read, second_read, inverse_read, node_value, lit_value, plain_value, zero_value, input_value, meet_value, constant_value}
 use Rattle.pim_rm3.proofs.GateKinds.Kind.{constant, inverse, input, meet}
 use Rattle.pim_rm3.proofs.GateOrders.{IsTakenOver, taken_over, taken_map}
 use Rattle.pim_rm3.proofs.GateOrders.IsTakenOver.{by_first, by_second}
+use Rattle.pim_rm3.proofs.Stepping.{Computes, HoldsAt, IsSound, Placing, Reads, all_held, read_before, read_needed}
 use Rattle.pim_rm3.proofs.Rows.{and_turns, bool_cases, lit_bit, lit_same, load_gives, load_off, narrow_gives, narrow_off, set_gives, set_off}
-
-pub all_has : (P : ℕ → Type 0) (xs : List ℕ) (x : ℕ) → All P xs → has xs x ≡ true → P x
-all_has P [] x all h = absurd (false≢true h)
-all_has P (y ∷ ys) x all h = elim (eqb_tells y x) [
-  | inl t ↦ subst P t.1 (all 0 x (omega arith))
-  | inr f ↦ all_has P ys x (λ k d l. all (suc k) d (omega arith)) (sym (ap (λ (b : Bool). b || has ys x) f.0) ∙ h)
-]
-
-pub or_true : (b c : Bool) → c ≡ true → (b || c) ≡ true
-or_true true c h = refl
-or_true false c h = h
-
--- a gate up to a place is at that place or before it
-pub split : (xs : List ℕ) (x y : ℕ) → has (xs ++ x ∷ []) y ≡ true → (has xs y ≡ true) ⊎ (x ≡ y)
-split [] x y h = elim (eqb_tells x y) [
-  | inl t ↦ inr t.1
-  | inr f ↦ absurd (false≢true (sym (ap (λ (b : Bool). b || false) f.0) ∙ h))
-]
-split (z ∷ zs) x y h = elim (eqb_tells z y) [
-  | inl t ↦ inl (ap (λ (b : Bool). b || has zs y) t.0)
-  | inr f ↦ elim (split zs x y (sym (ap (λ (b : Bool). b || has (zs ++ x ∷ []) y) f.0) ∙ h)) [
-    | inl q ↦ inl (ap (λ (b : Bool). b || has zs y) f.0 ∙ q)
-    | inr e ↦ inr e
-  ]
-]
 
 -- what is known of a program's gates and their cells
 pub record IsSettled (g : AigView) (a : AllotmentView) : Type 0 where
@@ -63,23 +40,16 @@ pub record IsSettled (g : AigView) (a : AllotmentView) : Type 0 where
   pub over : IsOver (gate_graph g) (gates g) (map (taken g) (gates g))
   pub allotted : IsAllotment (gate_graph g) (gates g) (map (taken g) (gates g)) g.inputs a
 
--- the row holds the inputs, and each gate before the place that is needed there
-pub record Holds (g : AigView) (a : AllotmentView) (bits : List Bool) (p : ℕ) (m : List Bool) : Type 0 where
-  pub laws : ExecLaws
-  pub wide : a.width ≤ length m
-  pub inputs : (k : ℕ) → k < g.inputs → bit m k ≡ get_or bits k false
-  pub held : (y : ℕ) → has (take p (gates g)) y ≡ true → needed (gate_graph g) (drop p (gates g)) y ≡ true → bit m (get_or a.cells y 0) ≡ aval g bits (record { 0 = y })
+-- the gates of a graph with these cells
+abbrev pub placing : AigView → AllotmentView → Placing
+placing g a = record { graph = gate_graph g; order = gates g; over = map (taken g) (gates g); first = g.inputs; cells = a }
 
--- what a gate reads is needed at its place
-pub kid_needed : (g : AigView) (p k : ℕ) → p < length (gates g) → has (kids_of (gate_graph g) (get_or (gates g) p 0)) k ≡ true → needed (gate_graph g) (drop p (gates g)) k ≡ true
-kid_needed g p k h child =
-    let v = gate_graph g in
-    let rest = drop (p + 1) (gates g) in
-    ap (λ (ys : List ℕ). needed v ys k) (drop_more (gates g) p 0 h)
-    ∙ ap (λ (b : Bool). (b || read_by v rest k) || has v.roots k) child
+-- the values of the gates
+abbrev pub values : AigView → List Bool → ℕ → Bool
+values g bits l = aval g bits (record { 0 = l })
 
 -- an operand that a gate reads at its place: its node's value is in its cell, which isn't the gate's own unless it is taken over
-record Reads (g : AigView) (a : AllotmentView) (bits m : List Bool) (p : ℕ) (e : Lit) : Type 0 where
+record ReadsOne (g : AigView) (a : AllotmentView) (bits m : List Bool) (p : ℕ) (e : Lit) : Type 0 where
   value : lit_bit g.inputs a.cells m e ≡ aval g bits e
   apart : taken g (get_or (gates g) p 0) ≡ None → (e.0 / 2 ≡ 0) ⊎ (cell_of g.inputs a.cells e ≢ get_or a.cells (get_or (gates g) p 0) 0)
 
@@ -96,19 +66,7 @@ cell_gate ins cells e h =
 pub none_some : (o : Option ℕ) (c : ℕ) → o ≡ None → o ≡ Some c → ⊥
 none_some o c n e = cc
 
-pub last : (xs : List ℕ) (x : ℕ) → has (xs ++ x ∷ []) x ≡ true
-last [] x = let e : eqb x x ≡ true = grind (arith, nat_tests) in ap (λ (b : Bool). b || false) e
-last (y ∷ ys) x = or_true (eqb y x) (has (ys ++ x ∷ []) x) (last ys x)
-
-pub has_whole : (xs : List ℕ) (p : ℕ) → p < length xs → has xs (get_or xs p 0) ≡ true
-has_whole [] p h = absurd (omega arith)
-has_whole (x ∷ xs) zero h = let e : eqb x x ≡ true = grind (arith, nat_tests) in ap (λ (b : Bool). b || has xs x) e
-has_whole (x ∷ xs) (suc p) h = or_true (eqb x (get_or xs p 0)) (has xs (get_or xs p 0)) (has_whole xs p (omega arith))
-
-has_at : (xs : List ℕ) (p : ℕ) → p < length xs → has (take (p + 1) xs) (get_or xs p 0) ≡ true
-has_at xs p h = ap (λ (ys : List ℕ). has ys (get_or xs p 0)) (take_more xs p 0 h) ∙ last (take p xs) (get_or xs p 0)
-
-reads_one : (g : AigView) (a : AllotmentView) (bits m : List Bool) (p : ℕ) (e : Lit) → IsSettled g a → length bits ≡ g.inputs → Holds g a bits p m → p < length (gates g) → (g.inputs < e.0 / 2 → has (kids_of (gate_graph g) (get_or (gates g) p 0)) (2 * (e.0 / 2)) ≡ true) → Reads g a bits m p e
+reads_one : (g : AigView) (a : AllotmentView) (bits m : List Bool) (p : ℕ) (e : Lit) → IsSettled g a → length bits ≡ g.inputs → Reads (placing g a) (values g bits) bits p m → p < length (gates g) → (g.inputs < e.0 / 2 → has (kids_of (gate_graph g) (get_or (gates g) p 0)) (2 * (e.0 / 2)) ≡ true) → ReadsOne g a bits m p e
 reads_one g a bits m p e s len holds h child =
     let v = gate_graph g in
     let xs = gates g in
@@ -129,12 +87,12 @@ reads_one g a bits m p e s len holds h child =
           let k = 2 * (e.0 / 2) in
           let kid = child b.1 in
           let before : has (take p xs) k ≡ true = all_has (λ y. has (take p xs) y ≡ true) (kids_of v l) k (s.placed.after p h) kid in
-          let need = kid_needed g p k h kid in
+          let need = read_needed (gate_graph g) (gates g) p k h kid in
           let half : k / 2 ≡ e.0 / 2 = omega arith in
           let even : k % 2 ≡ 0 = omega arith in
           record {
             value = lit_value g.inputs (node_values g bits) a.cells m e (zero_value g bits s.values) (λ some.
-                ap (bit m) (cell_gate g.inputs a.cells e b.1) ∙ holds.held k before need ∙ plain_value g bits k even ∙ ap (node_value g bits) half);
+                ap (bit m) (cell_gate g.inputs a.cells e b.1) ∙ holds.kids k kid ∙ plain_value g bits k even ∙ ap (node_value g bits) half);
             apart = λ none. inr (λ same. s.allotted.apart p k h before need (λ o. none_some (taken g l) k none (sym (taken_map g p h) ∙ o)) (sym (cell_gate g.inputs a.cells e b.1) ∙ same));
           }
     ]
@@ -247,15 +205,15 @@ second_one g l c (by_first even above same single) other = absurd (other same)
 second_one g l c (by_second even above same single) other = same
 
 -- the gate's own cell holds its value after its instructions
-gate_gives : (g : AigView) (a : AllotmentView) (bits m : List Bool) (p : ℕ) → IsSettled g a → length bits ≡ g.inputs → Holds g a bits p m → p < length (gates g) → Kind g (get_or (gates g) p 0) → bit (exec (instrs_at g a.cells (get_or (gates g) p 0)) m) (get_or a.cells (get_or (gates g) p 0) 0) ≡ aval g bits (record { 0 = get_or (gates g) p 0 })
-gate_gives g a bits m p s len holds h (constant none is) =
+gate_gives : (g : AigView) (a : AllotmentView) (bits m : List Bool) (p : ℕ) → ExecLaws → IsSettled g a → length bits ≡ g.inputs → Reads (placing g a) (values g bits) bits p m → p < length (gates g) → Kind g (get_or (gates g) p 0) → bit (exec (instrs_at g a.cells (get_or (gates g) p 0)) m) (get_or a.cells (get_or (gates g) p 0) 0) ≡ aval g bits (record { 0 = get_or (gates g) p 0 })
+gate_gives g a bits m p laws s len holds h (constant none is) =
     let l = get_or (gates g) p 0 in
     let z = get_or a.cells l 0 in
     let fits : z < length m = let b = s.allotted.within l (has_whole (gates g) p h) in omega (arith, holds.wide) in
     ap (λ (t : Gate). bit (exec (gate_instrs g a.cells z (taken g l) l t) m) z) is
     ∙ set_gives m (eqb l 1) z fits
     ∙ sym (constant_value g bits l s.values none)
-gate_gives g a bits m p s len holds h (inverse some odd is) =
+gate_gives g a bits m p laws s len holds h (inverse some odd is) =
     let l = get_or (gates g) p 0 in
     let z = get_or a.cells l 0 in
     let e : Lit = record { 0 = l } in
@@ -271,9 +229,9 @@ gate_gives g a bits m p s len holds h (inverse some odd is) =
     ap (λ (t : Gate). bit (exec (gate_instrs g a.cells z (taken g l) l t) m) z) is
     ∙ load_gives g.inputs a.cells m z e fits (reads.apart (ap (taken_of g) is))
     ∙ reads.value
-gate_gives g a bits m p s len holds h (input some even few is) =
+gate_gives g a bits m p laws s len holds h (input some even few is) =
     absurd (not_input g (get_or (gates g) p 0) (s.there p 0 h) (s.reached p 0 h) some even few)
-gate_gives g a bits m p s len holds h (meet even above is) =
+gate_gives g a bits m p laws s len holds h (meet even above is) =
     let v = gate_graph g in
     let l = get_or (gates g) p 0 in
     let z = get_or a.cells l 0 in
@@ -290,7 +248,7 @@ gate_gives g a bits m p s len holds h (meet even above is) =
       | inl none ↦
           open_gate
           ∙ ap (λ (o : Option ℕ). bit (exec (gate_instrs g a.cells z o l (gate.And x y)) m) z) none
-          ∙ and_fresh g a.cells m z l x y holds.laws fits (rx.apart none) (ry.apart none)
+          ∙ and_fresh g a.cells m z l x y laws fits (rx.apart none) (ry.apart none)
           ∙ ap (λ (b : Bool). b && lit_bit g.inputs a.cells m y) rx.value
           ∙ ap (λ (b : Bool). aval g bits x && b) ry.value
           ∙ sym value
@@ -299,7 +257,7 @@ gate_gives g a bits m p s len holds h (meet even above is) =
           let at : taken_at (map (taken g) (gates g)) p ≡ Some c = taken_map g p h ∙ some.1 in
           let kid = s.over.child p c h at in
           let before : has (take p (gates g)) c ≡ true = all_has (λ k. has (take p (gates g)) k ≡ true) (kids_of v l) c (s.placed.after p h) kid in
-          let old : bit m z ≡ aval g bits (record { 0 = c }) = ap (bit m) (s.allotted.taken p c h at) ∙ holds.held c before (kid_needed g p c h kid) in
+          let old : bit m z ≡ aval g bits (record { 0 = c }) = ap (bit m) (s.allotted.taken p c h at) ∙ holds.kids c kid in
           open_gate
           ∙ ap (λ (o : Option ℕ). bit (exec (gate_instrs g a.cells z o l (gate.And x y)) m) z) some.1
           ∙ narrow_gives g.inputs a.cells m z (cond (eqb x.0 c) y x) fits
@@ -320,73 +278,20 @@ gate_gives g a bits m p s len holds h (meet even above is) =
           ]
     ]
 
-pub or_more : (x y r : Bool) → (y || r) ≡ true → ((x || y) || r) ≡ true
-or_more true y r h = refl
-or_more false y r h = h
+-- the order and the cells of a settled graph
+sound : (g : AigView) (a : AllotmentView) → IsSettled g a → IsSound (placing g a)
+sound g a s = record { placed = s.placed; over = s.over; allotted = s.allotted }
 
--- one gate more
-step_holds : (g : AigView) (a : AllotmentView) (bits m : List Bool) (p : ℕ) → IsSettled g a → length bits ≡ g.inputs → Holds g a bits p m → p < length (gates g) → Holds g a bits (p + 1) (exec (instrs_at g a.cells (get_or (gates g) p 0)) m)
-step_holds g a bits m p s len holds h =
-    let v = gate_graph g in
-    let xs = gates g in
-    let l = get_or xs p 0 in
-    let z = get_or a.cells l 0 in
-    let is = instrs_at g a.cells l in
-    let off = λ (c : ℕ) (ne : c ≢ z). instrs_off g a.cells m z c l (taken g l) (gate_of g l) holds.laws ne in
-    let from = s.allotted.from l (has_whole xs p h) in
-    let size = holds.laws.keeps_length is m in
-    record {
-      laws = holds.laws;
-      wide = omega (arith, holds.wide);
-      inputs = λ k b. off k (λ e. absurd (omega arith)) ∙ holds.inputs k b;
-      held = λ y i n. elim (split (take p xs) l y (ap (λ (ys : List ℕ). has ys y) (sym (take_more xs p 0 h)) ∙ i)) [
-        | inl before ↦
-            let need : needed v (drop p xs) y ≡ true = ap (λ (ys : List ℕ). needed v ys y) (drop_more xs p 0 h) ∙ or_more (has (kids_of v l) y) (read_by v (drop (p + 1) xs) y) (has v.roots y) n in
-            let apart = s.allotted.apart p y h before need (λ o. false≢true (sym (s.over.last p y h o) ∙ n)) in
-            off (get_or a.cells y 0) apart ∙ holds.held y before need
-        | inr same ↦
-            let M : ℕ → Type 0 = λ k. bit (exec is m) (get_or a.cells k 0) ≡ aval g bits (record { 0 = k }) in
-            subst M same (gate_gives g a bits m p s len holds h (kind_of g l))
-      ];
-    }
-
-walk_holds : (g : AigView) (a : AllotmentView) (bits m : List Bool) (p : ℕ) → IsSettled g a → length bits ≡ g.inputs → p ≤ length (gates g) → Holds g a bits 0 m → Holds g a bits p (exec (flat_map (instrs_at g a.cells) (take p (gates g))) m)
-walk_holds g a bits m zero s len h start = start
-walk_holds g a bits m (suc p) s len h start =
-    let xs = gates g in
-    let f = instrs_at g a.cells in
-    let l = get_or xs p 0 in
-    let here : p < length xs = omega arith in
-    let before = exec (flat_map f (take p xs)) m in
-    let next = step_holds g a bits before p s len (walk_holds g a bits m p s len (omega arith) start) here in
-    let M : List Bool → Type 0 = λ r. Holds g a bits (p + 1) r in
-    let N : ℕ → Type 0 = λ n. Holds g a bits n (exec (flat_map f (take n xs)) m) in
-    let e : p + 1 ≡ suc p = omega arith in
-    let cut : flat_map f (take (p + 1) xs) ≡ flat_map f (take p xs) ++ f l = ap (flat_map f) (take_more xs p 0 here) ∙ sym (flat_map_more f [] (take p xs) l) in
-    subst N e (subst M (sym (ap (λ (is : List Instr). exec is m) cut ∙ start.laws.append (flat_map f (take p xs)) (f l) m)) next)
-
--- a row that begins with the inputs' bits
-start_holds : (g : AigView) (a : AllotmentView) (bits m : List Bool) → ExecLaws → a.width ≤ length m → take g.inputs m ≡ bits → Holds g a bits 0 m
-start_holds g a bits m laws wide is = record {
-  laws = laws;
-  wide = wide;
-  inputs = λ k h. sym (get_or-take g.inputs m k false h) ∙ ap (λ (xs : List Bool). get_or xs k false) is;
-  held = λ y i n. absurd (false≢true i);
+-- each gate is computed
+computes : (g : AigView) (a : AllotmentView) (bits : List Bool) → ExecLaws → IsSettled g a → length bits ≡ g.inputs → Computes (placing g a) (instrs_at g a.cells) (values g bits) bits
+computes g a bits laws s len = record {
+  off = λ p c m h ne. let l = get_or (gates g) p 0 in instrs_off g a.cells m (get_or a.cells l 0) c l (taken g l) (gate_of g l) laws ne;
+  gives = λ p m h reads. gate_gives g a bits m p laws s len reads h (kind_of g (get_or (gates g) p 0));
 }
 
 -- after all gates
-pub all_hold : (g : AigView) (a : AllotmentView) (bits m : List Bool) → IsSettled g a → ExecLaws → length bits ≡ g.inputs → a.width ≤ length m → take g.inputs m ≡ bits → Holds g a bits (length (gates g)) (exec (schedule g a.cells) m)
-all_hold g a bits m s laws len wide is =
-    let xs = gates g in
-    let M : List ℕ → Type 0 = λ ys. Holds g a bits (length xs) (exec (flat_map (instrs_at g a.cells) ys) m) in
-    subst M (take-length xs) (walk_holds g a bits m (length xs) s len (omega arith) (start_holds g a bits m laws wide is))
-
-pub has_front : (xs ys : List ℕ) (k : ℕ) → has xs k ≡ true → has (xs ++ ys) k ≡ true
-has_front [] ys k h = absurd (false≢true h)
-has_front (x ∷ xs) ys k h = elim (bool_cases (eqb x k)) [
-  | inl t ↦ ap (λ (b : Bool). b || has (xs ++ ys) k) t
-  | inr f ↦ or_true (eqb x k) (has (xs ++ ys) k) (has_front xs ys k (sym (ap (λ (b : Bool). b || has xs k) f) ∙ h))
-]
+pub all_hold : (g : AigView) (a : AllotmentView) (bits m : List Bool) → IsSettled g a → ExecLaws → length bits ≡ g.inputs → a.width ≤ length m → take g.inputs m ≡ bits → HoldsAt (placing g a) (values g bits) bits (length (gates g)) (exec (schedule g a.cells) m)
+all_hold g a bits m s laws len wide is = all_held (placing g a) (instrs_at g a.cells) (values g bits) bits m laws (sound g a s) (computes g a bits laws s len) wide is
 
 root_keeps : (ins : ℕ) (os : List Lit) (roots : List ℕ) (y : ℕ) → has roots y ≡ true → has (fold (with_root ins) roots os) y ≡ true
 root_keeps ins [] roots y h = h

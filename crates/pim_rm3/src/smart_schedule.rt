@@ -184,7 +184,7 @@ pub fn smart_cost(alloc: Global, mig: &Mig) -> Result<u32, NoMemory>
     ensures cycles { IfOk result (λ cycles. cycles ≡ smart_cost mig.now) }
 
     // The roles of a node are those of all six that cost least.
-    ensures least { (m : Maj) (x y z : Bool) → All (λ r. role_cost (least_role m x y z) ≤ role_cost r) (roles m x y z) }
+    ensures least { OnOk result ((m : Maj) (x y z : Bool) → All (λ r. role_cost (least_role m x y z) ≤ role_cost r) (roles m x y z)) }
 {
     let graph = mig_graph(alloc, mig)?;
     graph.has_order();

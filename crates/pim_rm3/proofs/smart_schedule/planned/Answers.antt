@@ -1,24 +1,13 @@
 use Rattle.std.proofs.Common.{◌≡◌, ℕ, ◌*◌, ◌<◌, ◌≤◌, All, List, length, subst, ◌∙◌, ap, arith}
 use Rattle.pim_graph.specs.Graphs.{GraphView}
 use Rattle.pim_graph.specs.Orders.{IsReached, order}
-use Rattle.pim_graph.specs.Peaks.{IsPlaced}
-use Rattle.pim_mig.specs.Graph.{MigView, size}
-use Rattle.pim_rm3.specs.Steps.{mig_gates, mig_graph}
-use Rattle.pim_rm3.proofs.StepLaws.{kids_count}
+use Rattle.pim_mig.specs.Graph.{size}
+use Rattle.pim_rm3.specs.Steps.{mig_gates}
+use Rattle.pim_rm3.proofs.StepLaws.{kids_count, order_placed, order_there}
 use Rattle.pim_rm3.proofs.smart_schedule.planned.Goals as goal
 
-placed : (g : MigView) (v : GraphView) → v ≡ mig_graph g → IsPlaced v (order v) → IsPlaced (mig_graph g) (mig_gates g)
-placed g v is h =
-    let P : GraphView → Type 0 = λ w. IsPlaced w (order w) in
-    subst P is h
-
-there : (g : MigView) → IsPlaced (mig_graph g) (mig_gates g) → All (λ l. l < 2 * size g) (mig_gates g)
-there g h =
-    let P : ℕ → Type 0 = λ n. All (λ l. l < n) (mig_gates g) in
-    subst P (kids_count g) h.there
-
 pub returns-clause-placed : goal.returns-clause-placed
-returns-clause-placed c = placed c.args.mig.now c.in_ok-graph.graph c.in_ok-graph.ensures c.has_order.ensures.placed
+returns-clause-placed c = order_placed c.args.mig.now c.in_ok-graph.graph c.in_ok-graph.ensures c.has_order.ensures.placed
 
 pub returns-clause-reached : goal.returns-clause-reached
 returns-clause-reached c =
@@ -28,7 +17,7 @@ returns-clause-reached c =
     subst Q c.in_ok-graph.ensures (subst P c.in_ok-order.ensures.order c.in_ok-order.ensures.reached)
 
 pub returns-clause-there : goal.returns-clause-there
-returns-clause-there c = there c.args.mig.now (placed c.args.mig.now c.in_ok-graph.graph c.in_ok-graph.ensures c.has_order.ensures.placed)
+returns-clause-there c = order_there c.args.mig.now (order_placed c.args.mig.now c.in_ok-graph.graph c.in_ok-graph.ensures c.has_order.ensures.placed)
 
 pub returns-clause-few : goal.returns-clause-few
 returns-clause-few c =

@@ -12,8 +12,8 @@ loop-literal-preserved c =
     let p = c.loop-literal.literal-index in
     let f : ℕ → ℕ = λ k. step_cost (step_of g k) in
     let more = sum_by-drop_more f order p 0 c.loop-literal-test.true in
-    let cost : c.step_cost.result ≡ f (get_or order p 0) = c.step_cost.ensures.cost ∙ ap (λ (s : Step). step_cost s) c.step_at.ensures.step in
-    record { rest = omega (arith, c.loop-literal.invariant.rest); few = omega (arith, c.step_cost.ensures.few, c.loop-literal.invariant.few) }
+    let cost : c.step_cost-cycles.result ≡ f (get_or order p 0) = c.step_cost-cycles.ensures.cost ∙ ap (λ (s : Step). step_cost s) c.step_at.ensures.step in
+    record { rest = omega (arith, c.loop-literal.invariant.rest); few = omega (arith, c.step_cost-cycles.ensures.few, c.loop-literal.invariant.few) }
 
 pub returns : goal.returns
 returns c =
