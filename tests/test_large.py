@@ -65,6 +65,8 @@ def test_a_program_file_of_512_megabytes(pim, folder):
             file.truncate(size)
         for command in "run", "list", "prove":
             stops(quick(command, lambda: pim(command, path, stdin=AND)), status, note)
+        with path.open("rb") as file:
+            stops(quick("convert", lambda: pim("convert", "--form", "1", stdin=file)), status, note)
     with path.open("wb") as file:
         file.write(b"imply 1\n\n")
         file.truncate(MOST_PROGRAM)
