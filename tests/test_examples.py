@@ -8,9 +8,9 @@ EXAMPLES = ROOT / "examples"
 README = (EXAMPLES / "README.md").read_text()
 
 
-def compiled(pim, name, cells, target="magic"):
+def compiled(pim, name, cells, target="magic", level="0"):
     """The program of an example, in at most so many cells."""
-    answer = pim("compile", "--target", target, "--cells", cells, stdin=(EXAMPLES / name).read_bytes())
+    answer = pim("compile", "--target", target, "--cells", cells, "--level", level, stdin=(EXAMPLES / name).read_bytes())
     equal(f"the note on {name}", answer.notes, b"")
     equal(f"the status on {name}", answer.status, 0)
     return answer.output
@@ -103,7 +103,7 @@ def test_the_gray_code(pim, folder):
 def test_what_another_simulator_computed(pim, folder):
     """Each netlist with vectors and results beside it gives those results: Icarus Verilog computed them from its module.
 
-    Its programs have as few cells as it needs, and a thousand, for each machine, and begin with zeros and with ones.
+    Its programs have as few cells as it needs, and a thousand, for each machine and level, and begin with zeros and with ones.
     """
     modules = sorted(path.stem for path in (EXAMPLES / "verilog").glob("*.v"))
     equal("the modules with results", modules, sorted(path.stem for path in EXAMPLES.glob("*.results")))
@@ -111,8 +111,9 @@ def test_what_another_simulator_computed(pim, folder):
         netlist, = [name for name in netlists() if name.startswith(f"{module}.")]
         vectors = (EXAMPLES / f"{module}.vectors").read_bytes()
         results = (EXAMPLES / f"{module}.results").read_bytes()
-        for target, cells in ("magic", needed()[netlist]), ("magic", "1000"), ("plim", "1000"):
-            (folder / "program.pim").write_bytes(compiled(pim, netlist, cells, target))
+        kinds = [("magic", needed()[netlist]), ("magic", "1000"), ("plim", "1000")]
+        for target, cells, level in [(*kind, level) for kind in kinds for level in "012"]:
+            (folder / "program.pim").write_bytes(compiled(pim, netlist, cells, target, level))
             for fill in "zeros", "ones":
                 gives(pim("run", folder / "program.pim", "--fill", fill, stdin=vectors), results)
 

@@ -50,23 +50,24 @@ def budgets(pim, target, netlist):
 
 
 def test_compiled_programs_from_any_content(pim, folder):
-    """Compiled programs, of few cells and of many, give the same outputs from rows with any content, and these are what `run`
-    gives; they are primed, their inputs stand first, and they name no cell past their own."""
+    """Compiled programs of each level, of few cells and of many, give the same outputs from rows with any content, and these are what
+    `run` gives; they are primed, their inputs stand first, and they name no cell past their own."""
     chance = random.Random(2)
     for name in EXAMPLES:
         netlist = (ROOT / "examples" / name).read_bytes()
         inputs = len(machine.parsed(pim("compile", "--target", "magic", "--cells", "1000", stdin=netlist).output)[1])
         vectors = ["".join(chance.choice("01") for _ in range(inputs)) for _ in range(10)]
         results = set()
-        for target, budget in [(target, budget) for target in ("magic", "plim") for budget in budgets(pim, target, netlist)]:
-            text = pim("compile", "--target", target, "--cells", str(budget), stdin=netlist).output
+        for target, budget, level in [(target, budget, level) for target in ("magic", "plim") for budget in budgets(pim, target, netlist)
+                                      for level in "012"]:
+            text = pim("compile", "--target", target, "--cells", str(budget), "--level", level, stdin=netlist).output
             shape(name, text, budget)
             (folder / "program.pim").write_bytes(text)
             answer = pim("run", folder / "program.pim", stdin="".join(vector + "\n" for vector in vectors).encode())
             results.add(answer.output)
             for vector, result in zip(vectors, answer.output.decode().split("\n")):
                 row = [chance.randint(0, 1) for _ in range(budget)]
-                equal(f"{name} to {target} in {budget} cells on {vector}", machine.executed(text, vector, row), result)
+                equal(f"{name} to {target} at level {level} in {budget} cells on {vector}", machine.executed(text, vector, row), result)
         equal(f"how many tables of results {name} has", len(results), 1)
 
 

@@ -12,18 +12,19 @@ def small_netlists():
             yield path.name, path.read_bytes()
 
 
-def compiled(pim, target, cells, netlist):
-    answer = pim("compile", "--target", target, "--cells", cells, stdin=netlist)
+def compiled(pim, target, cells, netlist, level="0"):
+    answer = pim("compile", "--target", target, "--cells", cells, "--level", level, stdin=netlist)
     equal("the note", answer.notes, b"")
     return answer.output
 
 
 def test_compiled_programs_are_equal(pim, folder):
-    """The programs of each example, for each machine, in few cells and in many and in both forms, are equal to it."""
+    """The programs of each example, for each machine and level, in few cells and in many and in both forms, are equal to it."""
     for name, netlist in small_netlists():
         note = pim("compile", "--target", "magic", "--cells", "0", stdin=netlist).notes.decode()
-        for target, cells in ("magic", note.split()[-1]), ("magic", "1000"), ("plim", "1000"):
-            text = compiled(pim, target, cells, netlist)
+        kinds = [("magic", note.split()[-1]), ("magic", "1000"), ("plim", "1000")]
+        for target, cells, level in [(*kind, level) for kind in kinds for level in "012"]:
+            text = compiled(pim, target, cells, netlist, level)
             (folder / "program").write_bytes(text)
             wanted = f"equal {2 ** len(machine.parsed(text)[1])}\n".encode()
             gives(pim("prove", folder / "program", stdin=netlist), wanted)

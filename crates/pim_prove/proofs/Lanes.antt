@@ -1,5 +1,6 @@
 -- Lanes of words: the values of literals, and the digits of columns.
-use Rattle.std.proofs.Common.{◌≡◌, ℕ, suc, ◌+◌, ◌-◌, ◌*◌, ◌/◌, ◌%◌, ◌^◌, ◌<◌, ◌≤◌, Bool, false, ◌&&◌, not, cond, List, [], ◌∷◌, ◌++◌, length, drop, get_or, refl, sym, ap, ◌∙◌, arith, bit_and, add-one, drop-cons, append_assoc}
+use Rattle.std.proofs.Common.{◌≡◌, ℕ, zero, suc, ◌+◌, ◌-◌, ◌*◌, ◌/◌, ◌%◌, ◌^◌, ◌<◌, ◌≤◌, Bool, true, false, ◌&&◌, not, cond, List, [], ◌∷◌, ◌++◌, length, drop, get_or, replicate, refl, sym, ap, ◌∙◌, arith, bit_and, add-one, drop-cons, append_assoc}
+use Rattle.std.specs.Prelude.{bit_xor}
 use Rattle.std.proofs.lemmas.Bool.{eq-eqb, ne_eqb}
 use Rattle.std.proofs.lemmas.List.{map-append}
 use Rattle.std.proofs.Math.ListN.{get_or-map}
@@ -9,8 +10,8 @@ use Rattle.pim_aig.specs.Graph.{AigView}
 use Rattle.pim_aig.specs.Values.{literal_value, node_values, values_from}
 use Rattle.pim_io.specs.Lanes.{is_set, lane}
 use Rattle.pim_prove.specs.Vectors.{digits}
-use Rattle.pim_prove.specs.inner.Comparing.{lanes_of}
-use Rattle.pim_prove.proofs.BitLemmas.{is_set-and, is_set-not, is_set-zero}
+use Rattle.pim_prove.specs.inner.Comparing.{are_unlike, lanes_of, words_at}
+use Rattle.pim_prove.proofs.BitLemmas.{is_set-and, is_set-ones, is_set-xor, is_set-zero}
 
 -- the lane of one of the words, and false past them
 get_or-lanes_of : (words : List ℕ) (n r : ℕ) → get_or (lanes_of words r) n false ≡ is_set (get_or words n 0) r
@@ -21,12 +22,32 @@ get_or-lanes_of words n r =
 lanes_of-push : (words new : List ℕ) (w r : ℕ) → new ≡ words ++ w ∷ [] → lanes_of new r ≡ lanes_of words r ++ is_set w r ∷ []
 lanes_of-push words new w r is = ap (λ ws. lanes_of ws r) is ∙ map-append (λ v. is_set v r) words (w ∷ [])
 
+-- one block more
+pub words_at-push : (blocks new : List (List ℕ)) (block : List ℕ) (j : ℕ) → new ≡ blocks ++ block ∷ [] → words_at new j ≡ words_at blocks j ++ get_or block j 0 ∷ []
+words_at-push blocks new block j is = ap (λ bs. words_at bs j) is ∙ map-append (λ ws. get_or ws j 0) blocks (block ∷ [])
+
+-- a block of zeros alone
+pub zeros_at : (blocks : List (List ℕ)) (n j : ℕ) → blocks ≡ replicate n zero ∷ [] → words_at blocks j ≡ zero ∷ []
+zeros_at blocks n j is = ap (λ bs. words_at bs j) is ∙ ap (λ (w : ℕ). w ∷ []) (get_or-zeros n j)
+  where
+    get_or-zeros : (n j : ℕ) → get_or (replicate n zero) j zero ≡ zero
+    get_or-zeros zero j = refl
+    get_or-zeros (suc n) zero = refl
+    get_or-zeros (suc n) (suc j) = get_or-zeros n j
+
 -- ---- literals
 
-pub literal_complement : (words : List ℕ) (l : Lit) (n w r : ℕ) → l.0 % 2 ≡ 1 → n ≡ l.0 / 2 → w ≡ get_or words n 0 → w < 2 ^ 64 → r < 64 →
-    is_set (2 ^ 64 - 1 - w) r ≡ literal_value (lanes_of words r) l
-literal_complement words l n w r odd node is fits small =
-    is_set-not w r fits small
+not_unlike : (b : Bool) → are_unlike b true ≡ not b
+not_unlike true = refl
+not_unlike false = refl
+
+pub literal_complement : (words : List ℕ) (l : Lit) (n w v r : ℕ) → l.0 % 2 ≡ 1 → n ≡ l.0 / 2 → w ≡ get_or words n 0 → v ≡ bit_xor w (2 ^ 64 - 1) → r < 64 →
+    is_set v r ≡ literal_value (lanes_of words r) l
+literal_complement words l n w v r odd node is value small =
+    ap (λ (x : ℕ). is_set x r) value
+    ∙ is_set-xor w (2 ^ 64 - 1) r
+    ∙ ap (are_unlike (is_set w r)) (is_set-ones r small)
+    ∙ not_unlike (is_set w r)
     ∙ ap (λ (x : ℕ). not (is_set x r)) (is ∙ ap (λ (m : ℕ). get_or words m 0) node)
     ∙ ap not (sym (get_or-lanes_of words (l.0 / 2) r))
     ∙ ap (λ (b : Bool). cond b (not (get_or (lanes_of words r) (l.0 / 2) false)) (get_or (lanes_of words r) (l.0 / 2) false)) (sym (eq-eqb (l.0 % 2) 1 odd))
@@ -95,6 +116,13 @@ lane_of words j r small =
     let place : (64 * j + r) / 64 ≡ j = omega arith in
     let rest : (64 * j + r) % 64 ≡ r = omega arith in
     ap (λ (n : ℕ). is_set (get_or words n 0) ((64 * j + r) % 64)) place ∙ ap (is_set (get_or words j 0)) rest
+
+-- a block of a column's words
+pub block_word : (column : List ℕ) (word j r k : ℕ) → r < 64 → lane column (64 * j + r) ≡ is_set (64 * word + (64 * j + r)) k →
+    is_set (get_or column j 0) r ≡ is_set (64 * (word + j) + r) k
+block_word column word j r k small is =
+    let number : 64 * word + (64 * j + r) ≡ 64 * (word + j) + r = omega arith in
+    sym (lane_of column j r small) ∙ is ∙ ap (λ (x : ℕ). is_set x k) number
 
 -- words that have their digits, as a column
 pub column_filled : (column : List ℕ) (start k n m : ℕ) → ((j : ℕ) → j < n → (r : ℕ) → r < 64 → is_set (get_or column j 0) r ≡ is_set (64 * (start + j) + r) k) →

@@ -1,4 +1,4 @@
-ghost use Rattle.std.specs.Prelude.{◌≡◌, ℕ, ◌+◌, ◌*◌, ◌<◌, ◌≤◌, ◌^◌, All, length, IfOk};
+ghost use Rattle.std.specs.Prelude.{◌≡◌, ℕ, ◌+◌, ◌*◌, ◌%◌, ◌<◌, ◌≤◌, ◌^◌, All, length, IfOk, OnOk};
 ghost use Rattle.pim_aig.specs.Values.{literal_value, node_values};
 ghost use Rattle.pim_io.specs.Lanes.{is_set};
 ghost use Rattle.pim_isa.specs.Results.{load};
@@ -7,8 +7,9 @@ ghost use Rattle.pim_isa.specs.Steps.{bit};
 ghost use Rattle.pim_isa.specs.declared.target.Fill.TheVariants as fills;
 ghost use Rattle.pim_lanes.specs.Banks.{row_of, SameFrame};
 ghost use Rattle.pim_prove.specs.Vectors.{digits};
-ghost use Rattle.pim_prove.specs.inner.Comparing.{IsFound, differ, first_unlike, lanes_of, row_at};
+ghost use Rattle.pim_prove.specs.inner.Comparing.{HasBlock, HoldsBlock, IsFound, block_start, differ, first_unlike, lanes_of, row_at, words_at};
 
+use crate::blocks::BLOCK;
 use crate::digits::fill_digits;
 use crate::values::Values;
 use pim_aig::{Aig, Lit};
@@ -66,7 +67,11 @@ fn tile_words(program: &Program) -> u32
     ensures few { result ≤ 64 }
     ensures some { 0 < result }
 {
-    if program.cells() <= 65_536 { 64 } else { 4 }
+    if program.cells() <= 65_536 {
+        64
+    } else {
+        BLOCK as u32
+    }
 }
 
 /// Compares for the vectors of a tile, from 64 times the number of the first word on.
@@ -90,14 +95,27 @@ fn compare_tile(
     load_tile(bank, column, program, start);
     bank.run(program);
     for place in 0..column.len() {
+        reach(aig, values, start, place)?;
         let word = start + place as u32;
-        values.evaluate(aig, word)?;
         let found = compare_word(program, aig, bank, values, place, word);
         if found.is_some() {
             return Ok(found);
         }
     }
     Ok(None)
+}
+
+/// Makes the values those of the block that has the word at a place of a tile.
+fn reach(aig: &Aig, values: &mut Values, start: u32, place: usize) -> Result<(), NoMemory>
+    requires few { aig.now.inputs ≤ 20 }
+    requires room { start + place + BLOCK < 2 ^ 32 }
+    requires held { HoldsBlock aig.now values.old start place }
+    ensures { OnOk result (HasBlock aig.now values.new (block_start start place)) }
+{
+    if place % BLOCK != 0 {
+        return Ok(());
+    }
+    values.evaluate(aig, start + place as u32)
 }
 
 /// Makes each row of a bank the row at the start for its vector.
@@ -134,7 +152,7 @@ fn compare_word(
     requires place { place < bank.now.words }
     requires room { 64 * word + 64 < 2 ^ 32 }
     requires rows { (r : ℕ) → r < 64 → row_of bank.now (64 * place + r) ≡ row_at program.now (64 * word + r) }
-    requires values { (r : ℕ) → r < 64 → lanes_of values.now r ≡ node_values aig.now (digits aig.now.inputs (64 * word + r)) }
+    requires values { (r : ℕ) → r < 64 → lanes_of (words_at values.now (place % BLOCK)) r ≡ node_values aig.now (digits aig.now.inputs (64 * word + r)) }
     ensures { IsFound program.now aig.now (64 * word) (64 * word + 64) result }
 {
     let lanes = unlike_lanes(bank, program.outputs(), aig.outputs(), values, place);
@@ -159,11 +177,11 @@ fn unlike_lanes(
     requires within { All (λ c. c < bank.now.cells) (cells_of outputs.now) }
     requires place { place < bank.now.words }
     ensures { (r : ℕ) → r < 64
-        → is_set result r ≡ differ (bit (row_of bank.now (64 * place + r))) (literal_value (lanes_of values.now r)) outputs.now literals.now }
+        → is_set result r ≡ differ (bit (row_of bank.now (64 * place + r))) (literal_value (lanes_of (words_at values.now (place % BLOCK)) r)) outputs.now literals.now }
 {
     let mut lanes = 0;
     for (k, port) in outputs.iter().enumerate() {
-        lanes |= bank.column(port.cell)[place] ^ values.literal(literals[k]);
+        lanes |= bank.column(port.cell)[place] ^ values.word(literals[k], place % BLOCK);
     }
     lanes
 }
@@ -182,11 +200,11 @@ fn unlike_output(
     requires within { All (λ c. c < bank.now.cells) (cells_of outputs.now) }
     requires place { place < bank.now.words }
     requires lane { lane < 64 }
-    ensures { result ≡ first_unlike (bit (row_of bank.now (64 * place + lane))) (literal_value (lanes_of values.now lane)) 0
+    ensures { result ≡ first_unlike (bit (row_of bank.now (64 * place + lane))) (literal_value (lanes_of (words_at values.now (place % BLOCK)) lane)) 0
         outputs.now literals.now }
 {
     for (k, port) in outputs.iter().enumerate() {
-        let lanes = bank.column(port.cell)[place] ^ values.literal(literals[k]);
+        let lanes = bank.column(port.cell)[place] ^ values.word(literals[k], place % BLOCK);
         if (lanes >> lane) & 1 == 1 {
             return Some(k as u32);
         }

@@ -1,6 +1,7 @@
 //! Whether a program computes a netlist: for every vector and whatever the other cells hold, or at which vector it first doesn't.
 #![tactic(auto)]
 
+mod blocks;
 mod comparing;
 mod digits;
 mod fault;

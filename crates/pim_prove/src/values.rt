@@ -1,27 +1,28 @@
-ghost use Rattle.std.specs.Prelude.{◌≡◌, ℕ, ◌+◌, ◌*◌, ◌≤◌, ◌<◌, ◌^◌, [], ◌∷◌, ◌++◌, slice_index, OnOk};
-ghost use Rattle.pim_aig.specs.Values.{literal_value, node_values, values_from};
+ghost use Rattle.std.specs.Prelude.{◌≡◌, ℕ, ◌+◌, ◌*◌, ◌≤◌, ◌<◌, ◌^◌, [], ◌∷◌, ◌++◌, length, slice_index, OnOk};
+ghost use Rattle.pim_aig.specs.Values.{literal_value, values_from};
 ghost use Rattle.pim_io.specs.Lanes.{is_set};
 ghost use Rattle.pim_prove.specs.Vectors.{digits};
-ghost use Rattle.pim_prove.specs.inner.Comparing.{lanes_of};
+ghost use Rattle.pim_prove.specs.inner.Comparing.{lanes_of, words_at, HasBlock};
 
-use crate::digits::digit_word;
+use crate::blocks::{BLOCK, both, unlike};
+use crate::digits::fill_digits;
 use pim_aig::{Aig, And, Lit};
 use pim_io::NoMemory;
 use std::alloc::Global;
 use std::marker::Model;
 
-/// The values of a graph's nodes for 64 vectors: a word for each node, a lane for each vector.
+/// The values of a graph's nodes for 64 vectors a word: some words for each node, a lane for each vector.
 #[derive(Debug, Drop)]
 pub(crate) struct Values {
-    words: Vec<u64>,
+    blocks: Vec<[u64; BLOCK]>,
 }
 
 impl Model for Values {
     ghost use Rattle.std.specs.Prelude.{ℕ, List};
 
-    ghost Value = { List ℕ };
+    ghost Value = { List (List ℕ) };
 
-    ghost view = { λ v. v.words.items };
+    ghost view = { λ v. v.blocks.items };
 }
 
 impl Values {
@@ -30,61 +31,89 @@ impl Values {
         ensures { result ≡ [] }
     {
         Values {
-            words: Vec::new(alloc),
+            blocks: Vec::new(alloc),
         }
     }
 
-    /// The values for the vectors from 64 times the word's number on. Linear in the nodes.
+    /// The values for the vectors from 64 times the first word's number on. Linear in the nodes.
     pub(crate) fn evaluate(&mut self, aig: &Aig, word: u32) -> Result<(), NoMemory>
-        requires { aig.now.inputs ≤ 20 }
-        ensures { OnOk result ((r : ℕ) → r < 64 → lanes_of self.new r ≡ node_values aig.now (digits aig.now.inputs (64 * word + r))) }
+        requires few { aig.now.inputs ≤ 20 }
+        requires room { word + BLOCK < 2 ^ 32 }
+        ensures { OnOk result (HasBlock aig.now self.new word) }
     {
-        self.words.clear();
-        self.words.push(0)?;
+        self.blocks.clear();
+        self.blocks.push([0; BLOCK])?;
         self.push_inputs(aig.inputs(), word)?;
         self.push_ands(aig.ands())
     }
 
     /// Appends the words of the inputs.
     fn push_inputs(&mut self, inputs: u32, word: u32) -> Result<(), NoMemory>
-        requires { inputs ≤ 20 }
-        ensures { OnOk result ((r : ℕ) → r < 64 → lanes_of self.new r ≡ lanes_of self.old r ++ digits inputs (64 * word + r)) }
+        requires few { inputs ≤ 20 }
+        requires room { word + BLOCK < 2 ^ 32 }
+        ensures { OnOk result ((j r : ℕ) → j < BLOCK → r < 64
+            → lanes_of (words_at self.new j) r ≡ lanes_of (words_at self.old j) r ++ digits inputs (64 * (word + j) + r)) }
     {
         let mut left = inputs;
         while left > 0 {
             left -= 1;
-            self.words.push(digit_word(left, word))?;
+            self.blocks.push(digit_words(left, word))?;
         }
         Ok(())
     }
 
     /// Appends the words of the AND nodes.
     fn push_ands(&mut self, ands: &[And]) -> Result<(), NoMemory>
-        ensures { OnOk result ((r : ℕ) → r < 64 → lanes_of self.new r ≡ values_from (lanes_of self.old r) ands.now) }
+        ensures { OnOk result ((j r : ℕ) → j < BLOCK → r < 64
+            → lanes_of (words_at self.new j) r ≡ values_from (lanes_of (words_at self.old j) r) ands.now) }
     {
         for and in ands {
-            let both = self.literal(and.x) & self.literal(and.y);
-            self.words.push(both)?;
+            let block = both(self.literal(and.x), self.literal(and.y));
+            self.blocks.push(block)?;
         }
         Ok(())
     }
 
-    /// The value of a literal.
-    pub(crate) fn literal(&self, literal: Lit) -> u64
-        ensures { (r : ℕ) → r < 64 → is_set result r ≡ literal_value (lanes_of self.now r) literal }
+    /// The values of a literal.
+    fn literal(&self, literal: Lit) -> [u64; BLOCK]
+        ensures { (j r : ℕ) → j < BLOCK → r < 64
+            → is_set (slice_index result j) r ≡ literal_value (lanes_of (words_at self.now j) r) literal }
     {
-        let word = self.node(literal.node());
+        let block = self.node(literal.node());
         if literal.is_complemented() {
-            !word
+            unlike(block, u64::MAX)
         } else {
-            word
+            block
         }
     }
 
-    /// The value of a node.
-    fn node(&self, node: u32) -> u64
-        ensures { result ≡ slice_index self.now node }
+    /// The values of a literal in one of the words.
+    pub(crate) fn word(&self, literal: Lit, at: usize) -> u64
+        requires { at < BLOCK }
+        ensures { (r : ℕ) → r < 64 → is_set result r ≡ literal_value (lanes_of (words_at self.now at) r) literal }
     {
-        self.words.get(node as usize).copied().unwrap_or(0)
+        let words = self.literal(literal);
+        words[at]
     }
+
+    /// The values of a node.
+    fn node(&self, node: u32) -> [u64; BLOCK]
+        ensures { (j : ℕ) → j < BLOCK → slice_index result j ≡ slice_index (words_at self.now j) node }
+    {
+        self.blocks
+            .get(node as usize)
+            .copied()
+            .unwrap_or([0; BLOCK])
+    }
+}
+
+/// The digit 2^k of the numbers of vectors, from 64 times the first word's number on.
+fn digit_words(k: u32, word: u32) -> [u64; BLOCK]
+    requires small { k < 20 }
+    requires room { word + BLOCK < 2 ^ 32 }
+    ensures { (j r : ℕ) → j < BLOCK → r < 64 → is_set (slice_index result j) r ≡ is_set (64 * (word + j) + r) k }
+{
+    let mut words = [0; BLOCK];
+    fill_digits(&mut words, k, word);
+    words
 }

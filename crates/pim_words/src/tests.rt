@@ -98,6 +98,54 @@ fn reads_debug_and_convert(rt: HostRuntime) -> Result<(), Fail> {
 }
 
 #[test]
+fn reads_compile_at_a_level(rt: HostRuntime) -> Result<(), Fail> {
+    let alloc = rt.alloc();
+    let words = words_of(alloc, "compile --target plim --cells 5 --level 2")?;
+    assert!(rt;
+        read(alloc, &words)?
+            == Command::Compile {
+                target: TargetWord::Plim,
+                level: LevelWord::Two,
+                cells: 5,
+            }
+    );
+    Ok(())
+}
+
+#[test]
+fn reads_explain_with_its_tree(rt: HostRuntime) -> Result<(), Fail> {
+    let alloc = rt.alloc();
+    let words = words_of(alloc, "explain a --tree")?;
+    assert!(rt; read(alloc, &words)? == Command::Explain { tree: true });
+    Ok(())
+}
+
+#[test]
+fn reads_numbers(rt: HostRuntime) -> Result<(), Fail> {
+    let alloc = rt.alloc();
+    let words = words_of(alloc, "imply --cells 5")?;
+    assert!(rt; read(alloc, &words)? == Command::Imply { cells: 5 });
+    let words = words_of(alloc, "share a --cells 1048576")?;
+    assert!(rt; read(alloc, &words)? == Command::Share { cells: 1_048_576 });
+    let words = words_of(alloc, "bench 64")?;
+    assert!(rt; read(alloc, &words)? == Command::Bench { bits: 64 });
+    Ok(())
+}
+
+#[test]
+fn reads_implyrun(rt: HostRuntime) -> Result<(), Fail> {
+    let alloc = rt.alloc();
+    let words = words_of(alloc, "implyrun a --fill ones")?;
+    assert!(rt;
+        read(alloc, &words)?
+            == Command::Implyrun {
+                fill: FillWord::Ones
+            }
+    );
+    Ok(())
+}
+
+#[test]
 fn refuses_other_words(rt: HostRuntime) -> Result<(), Fail> {
     let alloc = rt.alloc();
     for line in [
@@ -106,6 +154,12 @@ fn refuses_other_words(rt: HostRuntime) -> Result<(), Fail> {
         "compile",
         "compile --help",
         "compile --target magic --cells 1048577",
+        "compile --target magic --cells 5 --level 3",
+        "bench",
+        "bench 0",
+        "bench 65",
+        "imply",
+        "imply --cells 1048577",
     ] {
         let words = words_of(alloc, line)?;
         assert!(rt; matches!(read(alloc, &words), Err(WordsFault::Usage)));
@@ -123,6 +177,10 @@ fn refuses_other_words_of_others(rt: HostRuntime) -> Result<(), Fail> {
         "run --fill ones a",
         "list",
         "list a b",
+        "explain a --tree=true",
+        "share a",
+        "share --cells 5",
+        "implyrun",
         "prove",
         "asm a",
         "convert",

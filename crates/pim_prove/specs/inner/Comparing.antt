@@ -1,7 +1,7 @@
 -- Inner: programs and graphs compared vector by vector, 64 in a word.
-use Rattle.std.specs.Prelude.{◌≡◌, ℕ, ◌+◌, ◌<◌, ◌≤◌, ◌||◌, not, if◌then◌else◌, Bool, true, false, List, [], ◌∷◌, length, map, Option, Some, None}
+use Rattle.std.specs.Prelude.{◌≡◌, ◌≢◌, ℕ, ◌+◌, ◌*◌, ◌/◌, ◌%◌, ◌<◌, ◌≤◌, ◌||◌, not, if◌then◌else◌, Bool, true, false, List, [], ◌∷◌, length, map, slice_index, Option, Some, None}
 use Rattle.pim_aig.specs.Graph.{AigView}
-use Rattle.pim_aig.specs.Values.{aval}
+use Rattle.pim_aig.specs.Values.{aval, node_values}
 use Rattle.pim_aig.specs.declared.literal.Lit.{Lit}
 use Rattle.pim_io.specs.Lanes.{is_set}
 use Rattle.pim_isa.specs.declared.port.Port.{Port}
@@ -9,12 +9,29 @@ use Rattle.pim_isa.specs.declared.target.Fill.TheVariants.{Zeros}
 use Rattle.pim_isa.specs.Programs.{ProgramView}
 use Rattle.pim_isa.specs.Results.{load}
 use Rattle.pim_isa.specs.Steps.{bit, exec}
+use Rattle.pim_prove.specs.declared.blocks.TheConstants.{BLOCK}
 use Rattle.pim_prove.specs.declared.comparing.Difference.{Difference}
 use Rattle.pim_prove.specs.Vectors.{digits}
 
 -- lane r of each word
 abbrev pub lanes_of : List ℕ → ℕ → List Bool
 lanes_of words r = map (λ w. is_set w r) words
+
+-- word j of each block of words
+abbrev pub words_at : List (List ℕ) → ℕ → List ℕ
+words_at blocks j = map (λ words. slice_index words j) blocks
+
+-- the blocks have the values of a graph's nodes for the vectors from 64 times a word's number on
+abbrev pub HasBlock : AigView → List (List ℕ) → ℕ → Type 0
+HasBlock g blocks word = (j r : ℕ) → j < BLOCK → r < 64 → lanes_of (words_at blocks j) r ≡ node_values g (digits g.inputs (64 * (word + j) + r))
+
+-- the number of the first word of the block that has this one, where blocks are counted from the front of a tile
+abbrev pub block_start : ℕ → ℕ → ℕ
+block_start start place = start + BLOCK * (place / BLOCK)
+
+-- the blocks are those of the word at this place of a tile, unless that is the first word of a block
+abbrev pub HoldsBlock : AigView → List (List ℕ) → ℕ → ℕ → Type 0
+HoldsBlock g blocks start place = place % BLOCK ≢ 0 → HasBlock g blocks (block_start start place)
 
 -- two bits that are not the same
 abbrev pub are_unlike : Bool → Bool → Bool

@@ -1,0 +1,15 @@
+use Rattle.std.proofs.Common.{◌≡◌, set, get_or, bit_and, ◌∙◌, arith, below_more, get_or-set_same, get_or-set_other, length-set}
+use Rattle.pim_prove.proofs.blocks.both.Goals as goal
+
+pub loop-k-preserved : goal.loop-k-preserved
+loop-k-preserved c =
+    let before = c.loop-k.invariant in
+    let words = c.loop-k.words in
+    let k = c.loop-k.k in
+    let new = bit_and (get_or c.args.x k 0) (get_or c.args.y k 0) in
+    record {
+      done = below_more (λ j. get_or (set words k new) j 0 ≡ bit_and (get_or c.args.x j 0) (get_or c.args.y j 0)) k
+          (λ j small. get_or-set_other words k j new 0 (λ e. omega arith) ∙ before.done j small)
+          (get_or-set_same words k new 0 (omega (arith, before.long)));
+      long = length-set words k new ∙ before.long;
+    }
