@@ -62,12 +62,12 @@ root_more true c rs r = omega arith
 root_more false true rs r = omega arith
 root_more false false rs r = omega (arith, length-append rs (r ∷ []))
 
-roots_few : (g : AigView) (rs : List ℕ) (os : List Lit) → length (fold (with_root g.inputs) rs os) ≤ length rs + length os
-roots_few g rs [] = omega arith
-roots_few g rs (o ∷ os) = omega (arith, roots_few g (with_root g.inputs rs o) os, root_more (is_input g.inputs o) (has rs o.0) rs o.0)
+roots_few : (inputs : ℕ) (rs : List ℕ) (os : List Lit) → length (fold (with_root inputs) rs os) ≤ length rs + length os
+roots_few inputs rs [] = omega arith
+roots_few inputs rs (o ∷ os) = omega (arith, roots_few inputs (with_root inputs rs o) os, root_more (is_input inputs o) (has rs o.0) rs o.0)
 
 made_few : (g : AigView) → made_outputs g ≤ length g.outputs
-made_few g = omega (arith, roots_few g [] g.outputs, count_by-le-length is_made (gate_graph g).roots)
+made_few g = omega (arith, roots_few g.inputs [] g.outputs, count_by-le-length is_made (gate_graph g).roots)
 
 -- ---- both
 
