@@ -70,17 +70,20 @@ fn tidies_from_level_one_on(rt: HostRuntime) -> Result<(), Fail> {
     Ok(())
 }
 
-/// With four cells only the rewritten graph fits.
+/// The words that compile to PLiM with four cells, where only the rewritten graph of the exclusive or fits.
+pub const REWRITING: &[&str] = &[
+    "compile", "--target", "plim", "--cells", "4", "--level", "2",
+];
+
+/// The program of the rewritten exclusive or.
+pub const REWRITTEN_XOR: &[u8] =
+    b"pim 1\ntarget plim\ncells 4\ninput 0 a\ninput 1 b\noutput 3 f\ncycles 5\nrm3 #0 #1 @2\nrm3 @0 @1 @2\nrm3 #0 #1 @3\nrm3 @1 @0 @3\nrm3 @2 #0 @3\nend\n";
+
 #[test]
 fn rewrites_at_level_two(rt: HostRuntime) -> Result<(), Fail> {
     let alloc = rt.alloc();
-    let program =
-        b"pim 1\ntarget plim\ncells 4\ninput 0 a\ninput 1 b\noutput 3 f\ncycles 5\nrm3 #0 #1 @2\nrm3 @0 @1 @2\nrm3 #0 #1 @3\nrm3 @1 @0 @3\nrm3 @2 #0 @3\nend\n";
-    let words = [
-        "compile", "--target", "plim", "--cells", "4", "--level", "2",
-    ];
-    let ending = call(alloc, &words, XOR, 7)?;
-    gives(&rt, &ending, program);
+    let ending = call(alloc, REWRITING, XOR, 7)?;
+    gives(&rt, &ending, REWRITTEN_XOR);
     check(
         &rt,
         alloc,

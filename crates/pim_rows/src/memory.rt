@@ -3,6 +3,7 @@
 use crate::case::{
     AND_NETLIST, AND_PROGRAM, BINARY_AND, Ending, FIVE, XOR, XOR_PROGRAM, call, gives, stops,
 };
+use crate::compile::{REWRITING, REWRITTEN_XOR};
 use crate::imply::{IMPLIED_AND, implyrun};
 use crate::run::{repeated, run_on};
 use crate::share::{IN_TURNS, TWO_ANDS, behind_an_and, share};
@@ -42,6 +43,12 @@ fn of_covers(rt: HostRuntime) -> Result<(), Fail> {
     let words = ["compile", "--target", "magic", "--cells", "8"];
     let ending = call(rt.alloc(), &words, XOR, 7)?;
     gives_or_wants_memory(&rt, rt.alloc(), &ending, XOR_PROGRAM)
+}
+
+#[test]
+fn of_a_rewritten_netlist(rt: HostRuntime) -> Result<(), Fail> {
+    let ending = call(rt.alloc(), REWRITING, XOR, 7)?;
+    gives_or_wants_memory(&rt, rt.alloc(), &ending, REWRITTEN_XOR)
 }
 
 #[test]

@@ -5,6 +5,7 @@ use Rattle.pim_aig.specs.declared.graph.TheConstants.{MAX_ANDS}
 use Rattle.pim_imply.specs.Compiled.{IComputes, IsUnfit}
 use Rattle.pim_imply.specs.Costs.{impcost, needed_of}
 use Rattle.pim_imply.specs.Programs.{ImplyView}
+use Rattle.pim_imply.specs.Reading.{imply_of}
 use Rattle.pim_imply.specs.Text.{text}
 use Rattle.pim_imply.specs.declared.refusal.ImplyRefusal.{ImplyRefusal}
 use Rattle.pim_io.specs.declared.limits.TheConstants.{MAX_INPUT}
@@ -14,15 +15,16 @@ use Rattle.pim_top.specs.Netlists.{net_of}
 use Rattle.pim_top.specs.declared.judgement.Judgement.{Judgement}
 use Rattle.pim_top.specs.declared.judgement.Judgement.TheVariants.{Imply, Netlist}
 
--- the written bytes are the text of a program of `false` and `imp` that computes the netlist of the bytes, from every earlier content
--- of the other cells; it has as many cells as are needed, which is no more than the budget, and takes exactly the cycles that the
--- gates of the netlist cost
+-- the written bytes are the text of a program of `false` and `imp`, and are read as it; the program computes the netlist of the bytes,
+-- from every earlier content of the other cells; it has as many cells as are needed, which is no more than the budget, and takes
+-- exactly the cycles that the gates of the netlist cost
 pub record Implied (budget : ℕ) (bytes written : List ℕ) : Type 0 where
   pub net : NetView
   pub program : ImplyView
   pub checked : IsNet net
   pub is_net : net_of bytes ≡ Ok (draft_of net)
   pub is_text : written ≡ text program
+  pub read : imply_of written ≡ Ok program
   pub computes : IComputes program net
   pub within : program.cells ≤ budget
   pub needed : program.cells ≡ needed_of (flat net)

@@ -1,5 +1,6 @@
 -- What `share` says of a file of programs and of the turns of its input.
 use Rattle.std.specs.Prelude.{◌≡◌, ◌≤◌, ℕ, List, [], ◌∷◌, if◌then◌else◌, Option, None, Some, Result, Ok, Err, length}
+use Rattle.pim_file.specs.ProgramFile.{parse1_of}
 use Rattle.pim_file.specs.Text.{text}
 use Rattle.pim_io.specs.Lines.{LineView, lines, without_return}
 use Rattle.pim_io.specs.Readings.{◌>>=◌}
@@ -46,9 +47,9 @@ abbrev pub share_of : ℕ → List ProgramView → List ℕ → Result ProgramVi
 share_of budget parts input = turns_of input >>= λ turns. judged_as (λ fault. Share fault) (merge_of parts turns budget)
 
 -- ---- what is written
--- the bytes are programs and turns, and the written bytes are the text of the program that the parts become by these turns; each turn
--- names a part, and each part has as many turns as instructions; from every row the program leaves in the window of each part
--- what that part alone leaves there, and all other cells as before; where the parts are primed, so is the program
+-- the bytes are programs and turns; the written bytes are the text of the program that the parts become by these turns, and are read
+-- as it; each turn names a part, and each part has as many turns as instructions; from every row the program leaves in the window of
+-- each part what that part alone leaves there, and all other cells as before; where the parts are primed, so is the program
 pub record Shared (budget : ℕ) (file input written : List ℕ) : Type 0 where
   pub parts : List ProgramView
   pub turns : List ℕ
@@ -57,6 +58,7 @@ pub record Shared (budget : ℕ) (file input written : List ℕ) : Type 0 where
   pub are_turns : turns_of input ≡ Ok turns
   pub merged : merge_of parts turns budget ≡ Ok program
   pub is_text : written ≡ text program
+  pub read : parse1_of written ≡ Ok program
   pub fair : IsFair parts turns
   pub shared : IsShared parts program
   pub primed : KeepsPrimed parts program

@@ -8,7 +8,7 @@ use Rattle.pim_top.proofs.commands.share.turns_of.Goals as goal
 pub loop-line-init : goal.loop-line-init
 loop-line-init c = (
   ap (λ (turns : List ℕ). with_turns turns (turns_in (lines_left c.new-scan.result))) c.new-turns.ensures.items
-  ∙ none_before (turns_in (lines_left c.new-scan.result)) ∙ ap (λ (scan : ScanView). turns_in (lines_left scan)) c.new-scan.ensures,
+      ∙ none_before (turns_in (lines_left c.new-scan.result)) ∙ ap (λ (scan : ScanView). turns_in (lines_left scan)) c.new-scan.ensures,
   search rules,
 )
 
@@ -18,8 +18,8 @@ returns-in_err-turn_of-clause-refused c =
     let j = c.in_err-turn_of.field-0.0 in
     let is : c.from_residual.result ≡ Err j = search rules in
     let whole : with_turns c.loop-line.turns.items (turns_in (lines_left scan)) ≡ Err j =
-        ap (λ (ls : List LineView). with_turns c.loop-line.turns.items (turns_in ls)) c.in-Some.ensures.lines
-        ∙ no_turn c.loop-line.turns.items (line_view c.in-Some.line) (lines_left c.line.new.self) j c.in_err-turn_of.ensures.refused in
+    ap (λ (ls : List LineView). with_turns c.loop-line.turns.items (turns_in ls)) c.in-Some.ensures.lines
+    ∙ no_turn c.loop-line.turns.items (line_view c.in-Some.line) (lines_left c.line.new.self) j c.in_err-turn_of.ensures.refused in
     rw is (inr (sym c.loop-line.invariant.0 ∙ whole))
 
 pub loop-line-preserved : goal.loop-line-preserved
@@ -29,10 +29,10 @@ loop-line-preserved c =
     let line = line_view c.in-Some.line in
     let whole = one_more c.loop-line.turns.items line (lines_left next) c.in_ok-turn_of.field-0 c.in_ok-turn_of.ensures.turn in
     let here : with_turns c.push_turn.new.turns.items (turns_in (lines_left next)) ≡ turns_of c.args.input.now =
-        ap (λ (t : List ℕ). with_turns t (turns_in (lines_left next))) c.in_ok-push_turn.ensures
-        ∙ whole
-        ∙ ap (λ (ls : List LineView). with_turns c.loop-line.turns.items (turns_in ls)) (sym c.in-Some.ensures.lines)
-        ∙ c.loop-line.invariant.0 in
+    ap (λ (t : List ℕ). with_turns t (turns_in (lines_left next))) c.in_ok-push_turn.ensures
+    ∙ whole
+    ∙ ap (λ (ls : List LineView). with_turns c.loop-line.turns.items (turns_in ls)) (sym c.in-Some.ensures.lines)
+    ∙ c.loop-line.invariant.0 in
     let longer = ap (λ (turns : List ℕ). length turns) c.in_ok-push_turn.ensures in
     let one = length_push c.loop-line.turns.items c.in_ok-turn_of.field-0 in
     (here, omega (arith, longer, one, c.in-Some.ensures.shorter, c.loop-line.invariant.1))
