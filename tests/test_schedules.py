@@ -52,9 +52,9 @@ def test_the_examples(pim, folder):
 
 
 def test_netlists_by_chance(pim, folder):
-    """Three hundred netlists by chance, each for one target at one level."""
+    """A hundred and eighty netlists by chance, each for one target at one level."""
     chance = random.Random(31)
-    all_compile(pim, [(any_netlist(chance), ("magic", "plim")[number % 2], number // 2 % 3) for number in range(300)])
+    all_compile(pim, [(any_netlist(chance), ("magic", "plim")[number % 2], number // 2 % 3) for number in range(180)])
 
 
 def test_imply_programs(pim, folder):
