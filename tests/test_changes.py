@@ -132,7 +132,7 @@ def test_changed_turns(pim, folder):
             return refusal(answer, fault, data)
         done(answer, data)
 
-    all_changes(b"0\n 1\n01\r\n0", judged)
+    all_changes(b"0\n1\n01\r\n0", judged)
 
 
 def test_changed_parts(pim, folder):

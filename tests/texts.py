@@ -105,10 +105,6 @@ def fault_of(words, cells, magic):
     return b"reads its target" if word != b"init" and target in read else None
 
 
-def words_of(line):
-    return [word for word in re.split(rb"[ \t\r]+", line) if word]
-
-
 def small(word):
     """The value of a word of 1 to 10 digits, if it is below 2^32."""
     return int(word) if re.fullmatch(rb"[0-9]{1,10}", word) and int(word) < 2**32 else None
@@ -236,10 +232,9 @@ def judge_turns(data, cycles):
     """Fails with the first fault of turns for parts of so many cycles: first the shape of all lines, then each turn, then who is left."""
     turns = []
     for number, line in enumerate(lines_of(data), 1):
-        words = words_of(line)
-        if len(words) != 1 or small(words[0]) is None:
+        if small(line) is None:
             raise Refused(b"turn line %d" % number)
-        turns.append(small(words[0]))
+        turns.append(small(line))
     left = list(cycles)
     for number, turn in enumerate(turns, 1):
         if turn >= len(left) or not left[turn]:
