@@ -1,4 +1,6 @@
 """Inputs as large as they may be, of the kinds that cost a careless reader most: one long line, nothing but newlines, the largest file."""
+import random
+import re
 import time
 
 from program import ROOT, equal, gives, stops
@@ -113,3 +115,26 @@ def test_names_of_4096_bytes(pim, folder):
     answer = quick("compile", lambda: pim("compile", "--target", "magic", "--cells", "8000", stdin=netlist))
     equal("the note", answer.notes, b"")
     equal("the last lines", answer.output.split(b"\n")[-4:], [f"output 7999 {names[-1]}".encode(), b"cycles 0", b"end", b""])
+
+
+def test_a_sum_that_is_rewritten_in_many_passes(pim, folder):
+    """Two thousand products that share a literal: each pass of level 2 joins one more, and what is left computes the same."""
+    products = 2_000
+    names = " ".join(f"b{k}" for k in range(products))
+    rows = "".join("1" + "-" * k + "1" + "-" * (products - 1 - k) + " 1\n" for k in range(products))
+    netlist = f".inputs a {names}\n.outputs f\n.names a {names} f\n{rows}".encode()
+    chance, vectors, results = random.Random(27), [], []
+    for _ in range(200):
+        bits = [chance.randrange(2), *(int(chance.randrange(products) == 0) for _ in range(products))]
+        vectors.append("".join(map(str, bits)) + "\n")
+        results.append(f"{int(bits[0] and any(bits[1:]))}\n")
+    cycles = []
+    for level in "012":
+        words = ["compile", "--target", "plim", "--cells", "100000", "--level", level]
+        answer = quick(f"level {level}", lambda: pim(*words, stdin=netlist))
+        equal("the note", answer.notes, b"")
+        (folder / "it.pim").write_bytes(answer.output)
+        gives(pim("run", folder / "it.pim", "--fill", "ones", stdin="".join(vectors).encode()), "".join(results).encode())
+        cycles.append(int(re.search(rb"^cycles (\d+)$", answer.output, re.MULTILINE)[1]))
+    equal("whether a level made it longer", cycles, sorted(cycles, reverse=True))
+    equal("whether the sum was rewritten", cycles[2] < cycles[0] / 2, True)
