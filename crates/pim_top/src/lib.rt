@@ -1,6 +1,7 @@
 //! The one public call of the tool, [`pim`]: from words, sources and sinks to a status. A command that writes its text whole is a
 //! function of its words and of the bytes that it reads ([`WholeText`](whole::WholeText)); one shell reads the bytes and writes the
-//! text, for all of them. `run` goes on by one line at a time. The note of an answer is written once, for all commands.
+//! text, for all of them. `run` and `implyrun` go on by one line at a time, and so does `debug`. The note of an answer is written
+//! once, for all commands.
 #![tactic(auto)]
 
 mod commands;

@@ -5,9 +5,10 @@ ghost use Rattle.pim_top.specs.Statuses.{code_of};
 /// How a call of [`pim`](crate::pim) ended. Its number is the exit status of the program.
 #[derive(Clone, Copy, Debug, PartialEq, Eq)]
 pub enum Status {
-    /// The input was read to its end and everything was written.
+    /// Everything was read that is to be, and everything was written.
     Done,
-    /// The netlist, the program or a line of vectors has a fault.
+    /// What was read has a fault: a netlist, a program, assembly, a line of vectors, of commands or of turns; or the two that were
+    /// read don't go together.
     BadInput,
     /// There is no word, the command is unknown, or its other words are not words of it.
     Usage,
@@ -15,7 +16,7 @@ pub enum Status {
     ReadFault,
     /// The output failed, and counted it.
     WriteFault,
-    /// Memory was wanting.
+    /// Out of memory.
     NoMemory,
     /// The budget of cells is below what the command needs.
     TooFewCells,

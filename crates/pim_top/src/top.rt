@@ -36,8 +36,8 @@ use std::alloc::Global;
 /// Obeys the words: reads what the command wants, writes what it gives to `output`, and where it can't, one line to `notes`.
 ///
 /// `words` are those after the program's name. A failing notes sink changes nothing else. A command that doesn't stream reads its
-/// sources to their end and writes its text whole or not at all; `run` reads `program`, then `input` line by line, and writes the
-/// results of a tile of rows at a time.
+/// sources to their end and writes its text whole or not at all; `run` and `implyrun` read `program`, then `input` line by line, and
+/// write the results of a tile of rows at a time; `debug` writes each reply before it reads the next line.
 pub fn pim<P: Source, S: Source, K: Sink, E: Sink>(
     alloc: Global,
     words: &[String],

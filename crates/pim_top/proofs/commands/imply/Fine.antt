@@ -1,12 +1,11 @@
 -- A netlist that `imply` takes is not refused.
-use Rattle.std.proofs.Common.{◌≡◌, ◌⊎◌, ℕ, ◌<◌, ◌≤◌, List, Err, inr, refl, arith}
+use Rattle.std.proofs.Common.{◌≡◌, ℕ, ◌<◌, ◌≤◌, List, Err, inr, refl, arith}
 use Rattle.pim_aig.specs.Flat.{flat}
 use Rattle.pim_imply.specs.Costs.{needed_of}
 use Rattle.pim_imply.specs.declared.refusal.ImplyRefusal.{ImplyRefusal}
 use Rattle.pim_imply.specs.declared.refusal.ImplyRefusal.TheVariants as imply
-use Rattle.pim_net.specs.Netlist.{draft_of}
 use Rattle.pim_words.specs.declared.command.Command.TheVariants as commands
-use Rattle.pim_top.specs.Statuses.{IsWanting, imply_status, judgement_status}
+use Rattle.pim_top.specs.Statuses.{IsWanting, imply_status}
 use Rattle.pim_top.specs.commands.Imply.{ImpliesFine, ImplyAnswers, IsUnimplied}
 use Rattle.pim_top.specs.declared.judgement.Judgement.{Judgement}
 use Rattle.pim_top.specs.declared.judgement.Judgement.TheVariants as judgement

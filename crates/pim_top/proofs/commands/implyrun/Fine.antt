@@ -1,5 +1,5 @@
 -- A file and lines that `implyrun` takes are not refused.
-use Rattle.std.proofs.Common.{◌≡◌, ℕ, List, Result, Ok, ap}
+use Rattle.std.proofs.Common.{ℕ, List, Result, ap}
 use Rattle.pim_batch.specs.ImplyTables.{imply_runner}
 use Rattle.pim_imply.specs.Programs.{ImplyView}
 use Rattle.pim_imply.specs.declared.fault.ImplyFault.{ImplyFault}

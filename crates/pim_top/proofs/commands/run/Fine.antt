@@ -1,5 +1,5 @@
 -- A program file and lines that `run` takes are not refused.
-use Rattle.std.proofs.Common.{◌≡◌, ℕ, List, Result, Ok, ap}
+use Rattle.std.proofs.Common.{ℕ, List, Result, ap}
 use Rattle.pim_batch.specs.Tables.{runner_of}
 use Rattle.pim_file.specs.declared.fault.FileFault.{FileFault}
 use Rattle.pim_isa.specs.Programs.{ProgramView}

@@ -1,5 +1,5 @@
 -- Programs and turns that `share` takes are merged.
-use Rattle.std.proofs.Common.{◌≡◌, ℕ, List, Result, Ok, Err, None, Some, Option, ap, ◌∙◌, sym}
+use Rattle.std.proofs.Common.{◌≡◌, ℕ, List, Result, Ok, Err, None, ap, ◌∙◌, sym}
 use Rattle.pim_io.specs.Readings.{◌>>=◌}
 use Rattle.pim_isa.specs.Programs.{ProgramView}
 use Rattle.pim_share.specs.Merged.{merge_of, merged, ok_unless, share_fault}

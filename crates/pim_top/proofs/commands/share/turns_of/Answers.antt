@@ -1,4 +1,4 @@
-use Rattle.std.proofs.Common.{◌≡◌, ◌∙◌, ◌≤◌, ◌+◌, ℕ, List, [], ◌∷◌, Err, rules, ap, inr, length, sym, arith}
+use Rattle.std.proofs.Common.{◌≡◌, ◌∙◌, ℕ, List, [], Err, rules, ap, inr, length, sym, arith}
 use Rattle.std.proofs.lemmas.List.{length_push}
 use Rattle.pim_io.specs.Lines.{LineView, ScanView, line_view, lines_left}
 use Rattle.pim_top.specs.commands.Share.{turns_in, turns_of}
