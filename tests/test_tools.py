@@ -6,6 +6,11 @@ from program import equal
 
 DEAD = "module dead(input [3:0] a, output y); wire [3:0] t = a + 4'd1; wire unused = t[3]; assign y = ^t[2:0]; endmodule"
 STORE = "module store(input clk, input d, output reg q); always @(posedge clk) q <= q ^ d; endmodule"
+COUNT = """
+module count(input clk, input rst, input en, output reg [1:0] n);
+  always @(posedge clk) if (rst) n <= 0; else if (en) n <= n + 1;
+endmodule
+"""
 HALVES = """
 module half(input a, input b, output s, output c); assign s = a ^ b; assign c = a & b; endmodule
 module halves(input a, input b, input d, output s, output c);
@@ -92,3 +97,24 @@ def test_claims_and_loops(pim, folder):
         it.refused(it.yosys(CLAIM, "prep -flatten; techmap; aigmap; write_aiger", "-formal"), "aiger header")
         it.compiled(it.yosys(CLAIM, "prep -flatten; chformal -remove; techmap; aigmap; opt_clean -purge; write_aiger", "-formal"))
         it.refused(it.yosys(LOOP, "synth -flatten; abc -g AND; opt_clean -purge; write_blif"), "cycle ")
+
+
+def test_registers_with_reset_and_enable(pim, folder):
+    """`dffunmap` takes resets and enables out of the registers, for BLIF and for AIGER; without it a register stays a cell. The program
+    counts: from each state, with each reset and enable."""
+    if it := tools(pim, folder):
+        it.refused(it.yosys(COUNT, "synth -flatten; expose -evert-dff; abc -g AND; opt_clean -purge; write_blif"), "blif line ")
+        for write in "abc -g AND; opt_clean -purge; write_blif", "aigmap; opt_clean -purge; write_aiger -symbols":
+            netlist = it.yosys(COUNT, f"synth -flatten; dffunmap; expose -evert-dff; {write}")
+            program = pim("compile", "--target", "plim", "--cells", "1000", "--level", "2", stdin=netlist).output
+            (folder / "program").write_bytes(program)
+            ports = [line.split(" ", 2) for line in program.decode().split("\n") if line.startswith(("input ", "output "))]
+            inputs, outputs = ([label for kind, _, label in ports if kind == wanted] for wanted in ("input", "output"))
+            for state in range(4):
+                for rst, en in (0, 0), (0, 1), (1, 0), (1, 1):
+                    bits = {"clk": 0, "rst": rst, "en": en, "n.q[0]": state % 2, "n.q[1]": state // 2}
+                    vector = "".join(str(bits[label]) for label in inputs) + "\n"
+                    answer = pim("run", folder / "program", stdin=vector.encode()).output.decode()
+                    told = dict(zip(outputs, answer))
+                    wanted = 0 if rst else (state + en) % 4
+                    equal(f"what follows {bits}", int(told["n.d[0]"]) + 2 * int(told["n.d[1]"]), wanted)
