@@ -8,7 +8,7 @@ import subprocess
 import time
 
 from farm import Farm, Work, have_dask
-from program import equal
+from program import ROOT, equal
 
 LINES = 10_000_000
 
@@ -52,14 +52,19 @@ class Machine:
 
 
 def test_parallel_over_ssh(pim, folder):
-    """The line with `--sshlogin` gives what one `run` gives, over an ssh server of our own."""
+    """The guide's line with `--sshlogin`, as it stands there, gives what one `run` gives, over an ssh server of our own."""
     if not shutil.which("parallel") or not shutil.which("sshd", path="/usr/sbin:/usr/bin"):
         return
     work = Work(pim, folder, 30_000)
+    work.program.rename(folder / "wide.pim")
+    work.program = folder / "wide.pim"
+    work.vectors.rename(folder / "many.vectors")
+    work.vectors = folder / "many.vectors"
+    (folder / "pim").symlink_to(pim.path)
+    command, = [line for line in (ROOT / "docs" / "guide.md").read_text().split("\n") if line.startswith("    parallel ")]
     with Machine(folder):
-        command = f"parallel -k --pipe --block 16k --sshlogin there {pim.path} run {work.program} < {work.vectors}"
         shell = dict(os.environ, PARALLEL_SSH=f"ssh -F {folder}/config")
-        done = subprocess.run(["bash", "-c", command], env=shell, capture_output=True, timeout=120)
+        done = subprocess.run(["bash", "-c", command], cwd=folder, env=shell, capture_output=True, timeout=120)
     equal("the notes", done.stderr, b"")
     equal("the results", done.stdout, work.plain())
 
