@@ -29,7 +29,7 @@ fn root_usage(alloc: Global, graph: &Graph) -> Result<Option<u32>, NoMemory>
     ensures { IfOk result (λ answer. (answer ≡ tree_of graph.now) × IsGraph graph.now) }
 {
     let roots = graph.roots();
-    if roots.len() != 1 {
+    if !is_one(roots) {
         return Ok(None);
     }
     let root = roots[0];
@@ -42,6 +42,13 @@ fn root_usage(alloc: Global, graph: &Graph) -> Result<Option<u32>, NoMemory>
     }
     let usages = usage(alloc, graph)?;
     Ok(Some(usages[root as usize]))
+}
+
+/// Whether there is one root.
+fn is_one(roots: &[u32]) -> bool
+    ensures { IsTrue result ↔ length roots.now ≡ 1 }
+{
+    roots.len() == 1
 }
 
 /// How often each gate is read by all gates. Linear in the gates.

@@ -1,6 +1,7 @@
 ghost use Rattle.std.specs.Prelude.{◌≡◌, ℕ, ◌+◌, ◌<◌, ◌≤◌, ◌^◌, [], ◌∷◌, ◌++◌, true, false, ◌||◌, nat_le, if◌then◌else◌, length, slice_index_or, slice_set, Some, None, All, OnOk, OnErr};
 ghost use Rattle.std.specs.Option.{option_or};
 ghost use Rattle.pim_io.specs.Names.{label as label_of};
+ghost use Rattle.pim_isa.specs.PortLists.{input_ports};
 ghost use Rattle.pim_isa.specs.Validity.{fault_of};
 ghost use Rattle.pim_isa.specs.Sound.{HasLabel};
 
@@ -88,6 +89,19 @@ impl ProgramDraft {
         self.inputs.push(Port { cell, label })?;
         self.bad_input = first_bad(self.bad_input, &self.marks, self.cells, cell, place);
         mark(&mut self.marks, cell);
+        Ok(())
+    }
+
+    /// Appends inputs with these labels, in the cells from 0 on.
+    pub fn add_inputs(&mut self, labels: &[Name]) -> Result<(), NoMemory>
+        requires { length labels.now < 2 ^ 32 }
+        ensures { OnOk result (self.new ≡ record self.old { inputs = self.old.inputs ++ input_ports 0 labels.now }) }
+    {
+        let mut cell = 0;
+        for label in labels {
+            self.add_input(cell, label.bytes())?;
+            cell += 1;
+        }
         Ok(())
     }
 

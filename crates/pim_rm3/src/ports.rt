@@ -1,5 +1,4 @@
-ghost use Rattle.std.specs.Prelude.{◌≡◌, ◌<◌, ◌^◌, ◌++◌, All, length, OnOk};
-ghost use Rattle.pim_isa.specs.PortLists.{input_ports};
+ghost use Rattle.std.specs.Prelude.{◌≡◌, ◌<◌, ◌++◌, All, length, OnOk};
 ghost use Rattle.pim_rm3.specs.Schedules.{output_cell, output_ports};
 
 use crate::gate_graph::is_input;
@@ -17,19 +16,6 @@ fn output_cell(inputs: u32, cells: &[u32], output: Lit) -> u32
     } else {
         cells[output.0 as usize]
     }
-}
-
-/// Adds the input ports, in the cells from 0 on.
-pub(crate) fn add_inputs(draft: &mut ProgramDraft, labels: &[Name]) -> Result<(), NoMemory>
-    requires { length labels.now < 2 ^ 32 }
-    ensures { OnOk result (draft.new ≡ record draft.old { inputs = draft.old.inputs ++ input_ports 0 labels.now }) }
-{
-    let mut cell = 0;
-    for label in labels {
-        draft.add_input(cell, label.bytes())?;
-        cell += 1;
-    }
-    Ok(())
 }
 
 /// Adds the output ports, each in the cell where its output lies.

@@ -18,7 +18,7 @@ use crate::Refusal;
 use crate::emit::add_gates;
 use crate::gate_graph::gate_graph;
 use crate::over::all_taken;
-use crate::ports::{add_inputs, add_outputs};
+use crate::ports::add_outputs;
 use pim_aig::Aig;
 use pim_graph::{Allotment, Graph, allot, order, peak};
 use pim_io::NoMemory;
@@ -144,7 +144,7 @@ fn drafted(alloc: Global, aig: &Aig, ports: &Ports, plan: &Plan) -> Result<Progr
 {
     let cells = plan.allotment.cells();
     let mut draft = ProgramDraft::new(alloc, Target::Plim, plan.allotment.width());
-    add_inputs(&mut draft, ports.inputs())?;
+    draft.add_inputs(ports.inputs())?;
     add_outputs(
         &mut draft,
         aig.inputs(),

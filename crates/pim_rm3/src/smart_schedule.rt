@@ -18,7 +18,7 @@ ghost use Rattle.pim_rm3.specs.Steps.{enough_of, mig_gates, mig_graph, smart_cos
 ghost use Rattle.pim_rm3.specs.Temporaries.{full_graph, full_order, full_over};
 
 use crate::mig_graph::{literals, mig_graph};
-use crate::ports::{add_inputs, add_outputs};
+use crate::ports::add_outputs;
 use crate::step::{step_at, step_cost, steps};
 use crate::temporaries::{full_graph, full_order, full_over};
 use crate::votes::{add_votes, gate_cells};
@@ -151,7 +151,7 @@ fn drafted(alloc: Global, mig: &Mig, ports: &Ports, plan: &Plan) -> Result<Progr
     let held = plan.allotment.cells();
     let cells = gate_cells(alloc, literals(mig), held)?;
     let mut draft = ProgramDraft::new(alloc, Target::Plim, plan.allotment.width());
-    add_inputs(&mut draft, ports.inputs())?;
+    draft.add_inputs(ports.inputs())?;
     add_outputs(
         &mut draft,
         mig.inputs(),

@@ -1,5 +1,4 @@
-ghost use Rattle.std.specs.Prelude.{◌≡◌, ◌<◌, ◌^◌, ◌++◌, length, OnOk};
-ghost use Rattle.pim_isa.specs.PortLists.{input_ports};
+ghost use Rattle.std.specs.Prelude.{◌≡◌, ◌++◌, length, OnOk};
 ghost use Rattle.pim_nor.specs.Network.{AreInputsOrFirst, IsInputOrFirst};
 ghost use Rattle.pim_simpler.specs.inner.Kept.{cell_of, output_ports};
 
@@ -16,19 +15,6 @@ pub(crate) fn cell_of(cells: &[u32], pin: Pin) -> u32
         Pin::Input(input) => input,
         Pin::Gate(gate) => cells[gate as usize],
     }
-}
-
-/// Adds the input ports, in the cells from 0 on.
-pub(crate) fn add_inputs(draft: &mut ProgramDraft, labels: &[Name]) -> Result<(), NoMemory>
-    requires { length labels.now < 2 ^ 32 }
-    ensures { OnOk result (draft.new ≡ record draft.old { inputs = draft.old.inputs ++ input_ports 0 labels.now }) }
-{
-    let mut cell = 0;
-    for label in labels {
-        draft.add_input(cell, label.bytes())?;
-        cell += 1;
-    }
-    Ok(())
 }
 
 /// Adds the output ports, each in the cell of what it reads.

@@ -11,7 +11,7 @@ ghost use Rattle.pim_simpler.specs.inner.Runs.{Plan, Begins, Ran};
 ghost use Rattle.pim_simpler.specs.inner.Kept.{Refills, placed, after_read, after_reads, cell_of, instrs_of, output_ports, with_instrs};
 
 use crate::free_cells::FreeCells;
-use crate::ports::{add_inputs, add_outputs, cell_of};
+use crate::ports::{add_outputs, cell_of};
 use pim_graph::Readers;
 use pim_io::NoMemory;
 use pim_isa::{Ins, Instr, MAX_CELLS, Ports, ProgramDraft, Target};
@@ -188,7 +188,7 @@ impl<'a> Scheduler<'a> {
             ..
         } = self;
         let outs = net.outs();
-        add_inputs(&mut draft, ports.inputs())?;
+        draft.add_inputs(ports.inputs())?;
         add_outputs(&mut draft, &cells, outs, ports.outputs())?;
         Ok(draft)
     }

@@ -5,17 +5,17 @@ use Rattle.std.proofs.lemmas.Bool.{false≢true}
 use Rattle.std.proofs.lemmas.List.{get_or_default}
 use Rattle.pim_graph.proofs.trees.root_usage.Goals as goal
 
-pub returns-then-roots-ne1 : goal.returns-then-roots-ne1
-returns-then-roots-ne1 c =
+pub returns-then-not-is_one : goal.returns-then-not-is_one
+returns-then-not-is_one c =
     let g = c.args.graph.now in
-    (sym (tree_none g (λ e. c.if-roots-ne1.true (ap length c.roots-roots.ensures.list ∙ e))), c.roots-roots.ensures.sound)
+    (sym (tree_none g (λ e. false≢true (sym c.if-not-is_one.true ∙ c.is_one.ensures.1 (ap length c.roots-roots.ensures.list ∙ e)))), c.roots-roots.ensures.sound)
 
 pub returns-then-root-len : goal.returns-then-root-len
 returns-then-root-len c =
     let g = c.args.graph.now in
     let r = get_or c.roots-roots.result.now 0 0 in
     let sound = c.roots-roots.ensures.sound in
-    let roots : g.roots ≡ r ∷ [] = sym c.roots-roots.ensures.list ∙ one_root c.roots-roots.result.now c.if-roots-ne1.false in
+    let roots : g.roots ≡ r ∷ [] = sym c.roots-roots.ensures.list ∙ one_root c.roots-roots.result.now (c.is_one.ensures.0 c.if-not-is_one.false) in
     (sym (tree_no g r sound roots (root_there g r sound roots) (λ last once. c.if-root-len.true (last ∙ sym c.len.ensures.count))), sound)
 
 pub returns-then-not-are_read_once : goal.returns-then-not-are_read_once
@@ -23,7 +23,7 @@ returns-then-not-are_read_once c =
     let g = c.args.graph.now in
     let r = get_or c.roots-roots.result.now 0 0 in
     let sound = c.roots-roots.ensures.sound in
-    let roots : g.roots ≡ r ∷ [] = sym c.roots-roots.ensures.list ∙ one_root c.roots-roots.result.now c.if-roots-ne1.false in
+    let roots : g.roots ≡ r ∷ [] = sym c.roots-roots.ensures.list ∙ one_root c.roots-roots.result.now (c.is_one.ensures.0 c.if-not-is_one.false) in
     let last : r + 1 ≡ length g.kids = c.if-root-len.false ∙ c.len.ensures.count in
     let items = c.in_ok-counts.counts.items in
     let ones = counted_once g items r last c.in_ok-counts.ensures.counts in
@@ -39,7 +39,7 @@ returns c =
     let g = c.args.graph.now in
     let r = get_or c.roots-roots.result.now 0 0 in
     let sound = c.roots-roots.ensures.sound in
-    let roots : g.roots ≡ r ∷ [] = sym c.roots-roots.ensures.list ∙ one_root c.roots-roots.result.now c.if-roots-ne1.false in
+    let roots : g.roots ≡ r ∷ [] = sym c.roots-roots.ensures.list ∙ one_root c.roots-roots.result.now (c.is_one.ensures.0 c.if-not-is_one.false) in
     let last : r + 1 ≡ length g.kids = c.if-root-len.false ∙ c.len.ensures.count in
     let items = c.in_ok-counts.counts.items in
     let ones = counted_once g items r last c.in_ok-counts.ensures.counts in
