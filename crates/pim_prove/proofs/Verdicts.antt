@@ -1,5 +1,5 @@
 -- What comes of comparing a clean program with the flat graph of a netlist.
-use Rattle.std.proofs.Common.{◌≡◌, ℕ, ◌+◌, ◌-◌, ◌^◌, ◌<◌, ◌≤◌, Bool, false, List, length, map, take, get_or, Some, None, inl, inr, sym, ap, subst, ◌∙◌, arith}
+use Rattle.std.proofs.Common.{◌≡◌, ℕ, ◌+◌, ◌-◌, ◌^◌, ◌<◌, ◌≤◌, Bool, false, List, length, map, take, get_or, Option, Some, None, inl, inr, sym, ap, subst, ◌∙◌, arith}
 use Rattle.std.proofs.lemmas.Bool.{cases_lt}
 use Rattle.std.proofs.lemmas.List.{length-map}
 use Rattle.pim_aig.specs.Flat.{flat}
@@ -13,10 +13,10 @@ use Rattle.pim_isa.specs.Steps.{bit, exec}
 use Rattle.pim_net.specs.Netlist.{NetView}
 use Rattle.pim_net.specs.Values.{outs}
 use Rattle.pim_prove.specs.declared.comparing.Difference.{Difference}
-use Rattle.pim_prove.specs.Proving.{AgreesOn, DiffersAt, IsEqual, IsFirstDifference}
+use Rattle.pim_prove.specs.Proving.{AgreesOn, DiffersAt, IsEqual, IsFirstDifference, IsVerdict}
 use Rattle.pim_prove.specs.Steady.{HoldsInputs, IsSteady, outputs_of}
 use Rattle.pim_prove.specs.Vectors.{digits}
-use Rattle.pim_prove.specs.inner.Comparing.{Agrees, IsFound, row_at}
+use Rattle.pim_prove.specs.inner.Comparing.{Agrees, IsFound, row_at, verdict_of}
 use Rattle.pim_prove.proofs.Numbers.{digits-number, digits_again, length-digits, number, number_small, positive}
 use Rattle.pim_prove.proofs.Starts.{loaded_holds}
 use Rattle.pim_prove.proofs.Unlike.{UnlikeAt, first_is, outputs_same}
@@ -59,7 +59,7 @@ agreed p n g c x agrees = λ m held.
     ∙ outputs_same (bit (row_at p x)) (aval g (digits g.inputs x)) p.outputs g.outputs (c.outputs ∙ sym (graph_outputs p n g c)) agrees
     ∙ graph_gives p n g c x
 
-pub equal : (p : ProgramView) (n : NetView) (g : AigView) → Compared p n g → IsFound p g 0 (2 ^ g.inputs) None → IsEqual p n
+equal : (p : ProgramView) (n : NetView) (g : AigView) → Compared p n g → IsFound p g 0 (2 ^ g.inputs) None → IsEqual p n
 equal p n g c found = λ bits long.
     let x = number bits in
     let vector : digits (length n.inputs) x ≡ bits = ap (λ (k : ℕ). digits k x) (sym long) ∙ digits-number bits in
@@ -112,7 +112,13 @@ from_first p n g c x k before (j, at, there) =
     first_difference p n g c x k before
     (subst (UnlikeAt (map (bit (row_at p x)) (cells_of p.outputs)) (map (aval g (digits g.inputs x)) g.outputs)) same there)
 
-pub different : (p : ProgramView) (n : NetView) (g : AigView) → Compared p n g → (d : Difference) → IsFound p g 0 (2 ^ g.inputs) (Some d) →
+different : (p : ProgramView) (n : NetView) (g : AigView) → Compared p n g → (d : Difference) → IsFound p g 0 (2 ^ g.inputs) (Some d) →
     IsFirstDifference p n d.vector d.output
 different p n g c d found =
     from_first p n g c d.vector d.output found.0 (first_is (bit (row_at p d.vector)) (aval g (digits g.inputs d.vector)) 0 p.outputs g.outputs d.output found.1)
+
+-- what is told of what was found is right
+pub found_verdict : (p : ProgramView) (n : NetView) (g : AigView) → Compared p n g → (found : Option Difference) → IsFound p g 0 (2 ^ g.inputs) found →
+    IsVerdict p n (verdict_of found)
+found_verdict p n g c None found = equal p n g c found
+found_verdict p n g c (Some d) found = different p n g c d found

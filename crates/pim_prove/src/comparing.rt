@@ -155,12 +155,14 @@ fn compare_word(
     requires values { (r : ℕ) → r < 64 → lanes_of (words_at values.now (place % BLOCK)) r ≡ node_values aig.now (digits aig.now.inputs (64 * word + r)) }
     ensures { IsFound program.now aig.now (64 * word) (64 * word + 64) result }
 {
-    let lanes = unlike_lanes(bank, program.outputs(), aig.outputs(), values, place);
+    let outputs = program.outputs();
+    let literals = aig.outputs();
+    let lanes = unlike_lanes(bank, outputs, literals, values, place);
     if lanes == 0 {
         return None;
     }
     let lane = lanes.trailing_zeros();
-    let output = unlike_output(bank, program.outputs(), aig.outputs(), values, place, lane)?;
+    let output = unlike_output(bank, outputs, literals, values, place, lane)?;
     let vector = 64 * word + lane;
     Some(Difference { vector, output })
 }

@@ -1,6 +1,7 @@
 ghost use Rattle.std.specs.Prelude.{◌≡◌, ◌⊎◌, IfErr, IfOk, None, OnOk, Some};
 ghost use Rattle.pim_isa.specs.Sound.{IsProgram};
 ghost use Rattle.pim_prove.specs.Proving.{IsVerdict, ports_differ, refusal_of};
+ghost use Rattle.pim_prove.specs.inner.Comparing.{verdict_of};
 ghost use Rattle.pim_prove.specs.declared.fault.ProveFault.TheVariants as faults;
 
 use crate::comparing::{Difference, first_difference};
@@ -36,9 +37,17 @@ pub fn prove(alloc: Global, program: &Program, net: &Net) -> Result<Verdict, Pro
     if let Some(unset) = first_unset(alloc, program)? {
         return Err(ProveFault::NotClean(unset));
     }
-    match first_difference(alloc, program, &aig)? {
-        None => Ok(Verdict::Equal),
-        Some(Difference { vector, output }) => Ok(Verdict::Differs { vector, output }),
+    let found = first_difference(alloc, program, &aig)?;
+    Ok(verdict_of(found))
+}
+
+/// What a first difference means.
+fn verdict_of(found: Option<Difference>) -> Verdict
+    ensures { result ≡ verdict_of found }
+{
+    match found {
+        None => Verdict::Equal,
+        Some(Difference { vector, output }) => Verdict::Differs { vector, output },
     }
 }
 

@@ -11,6 +11,8 @@ use Rattle.pim_isa.specs.Results.{load}
 use Rattle.pim_isa.specs.Steps.{bit, exec}
 use Rattle.pim_prove.specs.declared.blocks.TheConstants.{BLOCK}
 use Rattle.pim_prove.specs.declared.comparing.Difference.{Difference}
+use Rattle.pim_prove.specs.declared.verdict.Verdict.{Verdict}
+use Rattle.pim_prove.specs.declared.verdict.Verdict.TheVariants.{Equal, Differs}
 use Rattle.pim_prove.specs.Vectors.{digits}
 
 -- lane r of each word
@@ -67,3 +69,8 @@ Agrees p g x = differ (bit (row_at p x)) (aval g (digits g.inputs x)) p.outputs 
 abbrev pub IsFound : ProgramView → AigView → ℕ → ℕ → Option Difference → Type 0
 IsFound p g from to None = (x : ℕ) → from ≤ x → x < to → Agrees p g x
 IsFound p g from to (Some d) = ((x : ℕ) → from ≤ x → x < d.vector → Agrees p g x) × (first_at p g d.vector ≡ Some d.output)
+
+-- what is told of what was found where all vectors were compared
+abbrev pub verdict_of : Option Difference → Verdict
+verdict_of None = Equal
+verdict_of (Some d) = Differs d.vector d.output
