@@ -1,7 +1,7 @@
-use crate::tests::and_draft;
 use crate::{DebugFault, Reply, Session};
 use pim_io::NoMemory;
 use pim_isa::{Fill, Program};
+use pim_samples::and_draft;
 use std::test::Fail;
 
 /// How many instructions the program of the AND has.

@@ -1,38 +1,7 @@
-ghost use Rattle.std.specs.Prelude.{◌≡◌, length, IfOk};
-
 use crate::{DebugFault, Reply, Session};
-use pim_io::NoMemory;
-use pim_isa::{Cells, Fill, Ins, Instr, Program, ProgramDraft, Target};
-use std::alloc::Global;
+use pim_isa::{Fill, Program};
+use pim_samples::and_draft;
 use std::test::Fail;
-
-/// The AND of the inputs in the cells 0 and 1 as the output in cell 4, by four instructions.
-pub(crate) fn and_draft(alloc: Global) -> Result<ProgramDraft, NoMemory>
-    ensures { IfOk result (λ draft. (length draft.inputs ≡ 2) × (length draft.outputs ≡ 1) × (length draft.instrs ≡ 4)) }
-{
-    let mut cells = Cells::new(alloc);
-    for cell in 2..5u32 {
-        cells.push(cell)?;
-    }
-    let mut draft = ProgramDraft::new(alloc, Target::Magic, 5);
-    draft.add_input(0, b"a")?;
-    draft.add_input(1, b"b")?;
-    draft.add_output(4, b"y")?;
-    draft.add(Instr::Init(cells))?;
-    draft.add(Instr::Nor {
-        t: 2,
-        ins: Ins::One(1),
-    })?;
-    draft.add(Instr::Nor {
-        t: 3,
-        ins: Ins::One(0),
-    })?;
-    draft.add(Instr::Nor {
-        t: 4,
-        ins: Ins::Two(2, 3),
-    })?;
-    Ok(draft)
-}
 
 #[test]
 fn goes_forward_and_back(rt: HostRuntime) -> Result<(), Fail> {

@@ -1,9 +1,6 @@
-ghost use Rattle.std.specs.Prelude.{◌≡◌, length, IfOk};
-
 use crate::{Bank, nor1_into, nor2_into, ones_into, rm3_into};
-use pim_io::NoMemory;
-use pim_isa::{Cells, Fill, Ins, Instr, Operand, Program, ProgramDraft, Target};
-use std::alloc::Global;
+use pim_isa::{Fill, Ins, Instr, Operand, Program};
+use pim_samples::and_draft;
 use std::test::Fail;
 
 /// Words with no pattern of their own.
@@ -50,31 +47,6 @@ fn kernels_follow_the_rules_at_every_length(rt: HostRuntime) {
             }
         }
     }
-}
-
-/// The AND of the cells 0 and 1 in cell 4.
-fn and_draft(alloc: Global) -> Result<ProgramDraft, NoMemory>
-    ensures { IfOk result (λ draft. (draft.cells ≡ 5) × (length draft.inputs ≡ 0) × (length draft.outputs ≡ 0) × (length draft.instrs ≡ 4)) }
-{
-    let mut cells = Cells::new(alloc);
-    for cell in 2..5u32 {
-        cells.push(cell)?;
-    }
-    let mut draft = ProgramDraft::new(alloc, Target::Magic, 5);
-    draft.add(Instr::Init(cells))?;
-    draft.add(Instr::Nor {
-        t: 2,
-        ins: Ins::One(1),
-    })?;
-    draft.add(Instr::Nor {
-        t: 3,
-        ins: Ins::One(0),
-    })?;
-    draft.add(Instr::Nor {
-        t: 4,
-        ins: Ins::Two(2, 3),
-    })?;
-    Ok(draft)
 }
 
 #[test]

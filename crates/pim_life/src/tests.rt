@@ -1,38 +1,7 @@
-ghost use Rattle.std.specs.Prelude.{◌≡◌, length, IfOk};
-
 use crate::{End, Life, Start, TreeFault, explain, explain_tree, lives, nor_graph};
-use pim_io::NoMemory;
-use pim_isa::{Cells, Ins, Instr, Operand, Program, ProgramDraft, Target};
-use std::alloc::Global;
+use pim_isa::{Instr, Operand, Program, ProgramDraft, Target};
+use pim_samples::and_draft;
 use std::test::Fail;
-
-/// The AND of the cells 0 and 1 in cell 4.
-fn and_draft(alloc: Global) -> Result<ProgramDraft, NoMemory>
-    ensures { IfOk result (λ draft. (length draft.inputs ≡ 2) × (length draft.outputs ≡ 1) × (length draft.instrs ≡ 4)) }
-{
-    let mut draft = ProgramDraft::new(alloc, Target::Magic, 5);
-    draft.add_input(0, b"i0")?;
-    draft.add_input(1, b"i1")?;
-    draft.add_output(4, b"o0")?;
-    let mut cells = Cells::new(alloc);
-    cells.push(2)?;
-    cells.push(3)?;
-    cells.push(4)?;
-    draft.add(Instr::Init(cells))?;
-    draft.add(Instr::Nor {
-        t: 2,
-        ins: Ins::One(1),
-    })?;
-    draft.add(Instr::Nor {
-        t: 3,
-        ins: Ins::One(0),
-    })?;
-    draft.add(Instr::Nor {
-        t: 4,
-        ins: Ins::Two(2, 3),
-    })?;
-    Ok(draft)
-}
 
 /// A life.
 fn life(cell: u32, start: Start, end: End) -> Life {

@@ -1,42 +1,9 @@
-ghost use Rattle.std.specs.Prelude.{◌≡◌, ◌≤◌, length, IfOk};
-
 use crate::{ProveFault, Unset, Verdict, first_unset, prove};
-use pim_io::NoMemory;
-use pim_isa::{Cells, Ins, Instr, Program, ProgramDraft, Target};
+use pim_isa::{Program, ProgramDraft, Target};
 use pim_net::{Bit3, Cover, Draft, Net, NetFault, OutRef};
+use pim_samples::{and_draft, unset_and_draft};
 use std::alloc::Global;
 use std::test::Fail;
-
-/// The AND of the cells 0 and 1 in cell 4. It is clean if it begins with the Init.
-fn and_draft(alloc: Global, is_clean: bool) -> Result<ProgramDraft, NoMemory>
-    ensures ports { IfOk result (λ draft. (length draft.inputs ≡ 2) × (length draft.outputs ≡ 1)) }
-    ensures few { IfOk result (λ draft. length draft.instrs ≤ 4) }
-{
-    let mut draft = ProgramDraft::new(alloc, Target::Magic, 5);
-    draft.add_input(0, b"i0")?;
-    draft.add_input(1, b"i1")?;
-    draft.add_output(4, b"o0")?;
-    if is_clean {
-        let mut cells = Cells::new(alloc);
-        cells.push(2)?;
-        cells.push(3)?;
-        cells.push(4)?;
-        draft.add(Instr::Init(cells))?;
-    }
-    draft.add(Instr::Nor {
-        t: 2,
-        ins: Ins::One(1),
-    })?;
-    draft.add(Instr::Nor {
-        t: 3,
-        ins: Ins::One(0),
-    })?;
-    draft.add(Instr::Nor {
-        t: 4,
-        ins: Ins::Two(2, 3),
-    })?;
-    Ok(draft)
-}
 
 /// A netlist of one output that is one where the first input is and the second is as this cell asks.
 fn net(alloc: Global, second: Bit3) -> Result<Net, NetFault> {
@@ -52,7 +19,7 @@ fn net(alloc: Global, second: Bit3) -> Result<Net, NetFault> {
 
 #[test]
 fn finds_an_equal_program(rt: HostRuntime) -> Result<(), Fail> {
-    let program = Program::new(and_draft(rt.alloc(), true)?)?;
+    let program = Program::new(and_draft(rt.alloc())?)?;
     let net = net(rt.alloc(), Bit3::One)?;
     assert_eq!(rt; prove(rt.alloc(), &program, &net)?, Verdict::Equal);
     Ok(())
@@ -60,7 +27,7 @@ fn finds_an_equal_program(rt: HostRuntime) -> Result<(), Fail> {
 
 #[test]
 fn finds_the_least_vector(rt: HostRuntime) -> Result<(), Fail> {
-    let program = Program::new(and_draft(rt.alloc(), true)?)?;
+    let program = Program::new(and_draft(rt.alloc())?)?;
     let net = net(rt.alloc(), Bit3::Any)?;
     let verdict = prove(rt.alloc(), &program, &net)?;
     assert_eq!(rt;
@@ -75,7 +42,7 @@ fn finds_the_least_vector(rt: HostRuntime) -> Result<(), Fail> {
 
 #[test]
 fn finds_an_unset_target(rt: HostRuntime) -> Result<(), Fail> {
-    let program = Program::new(and_draft(rt.alloc(), false)?)?;
+    let program = Program::new(unset_and_draft(rt.alloc())?)?;
     let unset = Unset::Used { instr: 0, cell: 2 };
     assert_eq!(rt; first_unset(rt.alloc(), &program)?, Some(unset));
     let net = net(rt.alloc(), Bit3::One)?;

@@ -1,0 +1,25 @@
+use crate::{and_draft, unset_and_draft};
+use pim_isa::{Fill, Machine, Program};
+use std::test::Fail;
+
+#[test]
+fn gives_the_and(rt: HostRuntime) -> Result<(), Fail> {
+    let program = Program::new(and_draft(rt.alloc())?)?;
+    let mut machine = Machine::load(rt.alloc(), &program, &[true, true], Fill::Zeros)?;
+    for _ in 0..4 {
+        assert!(rt; machine.step());
+    }
+    assert_eq!(rt; machine.cell(4), Some(true));
+    Ok(())
+}
+
+#[test]
+fn gives_no_and_where_cells_are_unset(rt: HostRuntime) -> Result<(), Fail> {
+    let program = Program::new(unset_and_draft(rt.alloc())?)?;
+    let mut machine = Machine::load(rt.alloc(), &program, &[true, true], Fill::Zeros)?;
+    for _ in 0..3 {
+        assert!(rt; machine.step());
+    }
+    assert_eq!(rt; machine.cell(4), Some(false));
+    Ok(())
+}
