@@ -139,17 +139,26 @@ def test_changed_turns(pim, folder):
 
 
 def test_changed_parts(pim, folder):
-    """A file of two programs: each change is a fault of the first piece that is no program, or the turns decide."""
+    """A file of two programs: each change is a fault of the first piece that is no program, or the turns decide, by their cycles."""
+    turns = b"0\n1\n0\n1\n"
+
     def judged(number, data):
-        answer = called_on(pim, folder, number, data, "share", "--cells", "1048576", stdin=b"0\n1\n0\n1\n")
+        answer = called_on(pim, folder, number, data, "share", "--cells", "1048576", stdin=turns)
         try:
             for part, piece in enumerate(pieces(data)):
                 judge_part(part, piece)
+            texts.judge_turns(turns, [cycles_of(piece) for piece in pieces(data)])
         except texts.Refused as fault:
             return refusal(answer, fault, data)
-        equal(f"whether {data!r} is no fault of a part", answer.status in (0, 1, 6) and b"program" not in answer.notes, True)
+        done(answer, data)
+        equal(f"the cycles for {data!r}", cycles_of(answer.output), 4)
 
     all_changes(ONE * 2, judged)
+
+
+def cycles_of(text):
+    """How many cycles a program says that it has."""
+    return next(int(line.split(b" ")[1]) for line in text.split(b"\n") if line.startswith(b"cycles "))
 
 
 def pieces(data):
