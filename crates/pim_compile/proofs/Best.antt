@@ -1,12 +1,12 @@
 -- The first of the shortest programs, of two lists of networks and of both together.
-use Rattle.std.proofs.Common.{◌≡◌, ◌⊎◌, ℕ, suc, ◌+◌, ◌<◌, ◌≤◌, Bool, true, false, if◌then◌else◌, ltb, List, [], ◌∷◌, ◌++◌, length, Option, Some, None, inl, inr, refl, sym, ◌∙◌, ap, subst, arith}
+use Rattle.std.proofs.Common.{◌≡◌, ℕ, ◌+◌, ◌<◌, ◌≤◌, Bool, true, false, if◌then◌else◌, List, [], ◌∷◌, ◌++◌, length, Option, Some, None, inl, inr, refl, sym, arith}
 use Rattle.std.specs.Prelude.{All, nat_lt}
 use Rattle.std.proofs.lemmas.Bool.{ltb-true, ltb-false}
 use Rattle.std.proofs.lemmas.List.Elements.{All-append, All-cons, All-head, All-nil, All-tail, All-weaker}
 use Rattle.pim_isa.specs.Programs.{ProgramView}
 use Rattle.pim_nor.specs.Network.{NorView}
 use Rattle.pim_simpler.specs.Needs.{needed_of}
-use Rattle.pim_compile.specs.Choices.{FitsInNoFewer, IsFirst, TakesAtLeast}
+use Rattle.pim_compile.specs.Choices.{FitsInNoFewer, IsFirst}
 use Rattle.pim_compile.specs.Cycles.{IsQuickBy}
 use Rattle.pim_compile.specs.inner.Candidates.{IsBest, IsRoomy, IsTooWide, shorter}
 
@@ -65,7 +65,7 @@ module _ (IsOf : NorView → ProgramView → Type 0) (budget : ℕ) where
 
   -- the shorter of two programs, by whether the second has fewer cycles
   shorter_first : (b : Bool) (ws vs : List NorView) (p q : ProgramView) → b ≡ nat_lt (length q.instrs) (length p.instrs) →
-      IsBest IsOf budget ws (Some p) → IsBest IsOf budget vs (Some q) → IsBest IsOf budget (ws ++ vs) (if b then Some q else Some p)
+      IsBest IsOf budget ws (Some p) → IsBest IsOf budget vs (Some q) → IsBest IsOf budget (ws ++ vs) (Some (if b then q else p))
   shorter_first true ws vs p q is here there =
       let less : length q.instrs < length p.instrs = ltb-true (length q.instrs) (length p.instrs) (sym is) in (
         behind_more ws vs q (all_fewer_too (length p.instrs) (length q.instrs + 1) ws (omega arith) (no_fewer ws p here.0)) there.0,

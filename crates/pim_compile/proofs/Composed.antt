@@ -7,7 +7,6 @@ use Rattle.pim_aig.specs.Flat.{ands, flat}
 use Rattle.pim_aig.specs.Graph.{AigView}
 use Rattle.pim_aig.specs.Values.{aval}
 use Rattle.pim_aig.specs.declared.graph.TheConstants.{MAX_ANDS}
-use Rattle.pim_isa.specs.PortLists.{labels_of}
 use Rattle.pim_isa.specs.Primed.{IsPrimed}
 use Rattle.pim_isa.specs.Programs.{PortsView, ProgramView}
 use Rattle.pim_isa.specs.Realizes.{Realizes}
@@ -32,11 +31,12 @@ use Rattle.pim_compile.specs.Networks.{FollowsGraph, FollowsNetwork, FollowsSome
 use Rattle.pim_compile.specs.Refusals.{IsAccepted, IsEnough}
 use Rattle.pim_compile.specs.Targets.{OnMagic, OnPlim}
 use Rattle.pim_compile.specs.inner.Candidates.{IsBestOf, IsMagic, IsOfNetwork, IsPlaced, IsProgramOf, IsScheduleOf, IsTooWide, shorter}
+use Rattle.pim_compile.specs.inner.Fits.{program_of}
 use Rattle.pim_compile.specs.inner.Scheduled.{IsScheduled}
 use Rattle.pim_compile.specs.inner.Smart.{IsPlim}
 use Rattle.pim_compile.specs.declared.compiling.Level.{Level}
 use Rattle.pim_compile.specs.declared.compiling.Level.TheVariants as level
-use Rattle.pim_compile.specs.declared.refusal.Refusal.{Refusal as Refused}
+use Rattle.pim_compile.specs.declared.fit.Fit.{Fit}
 use Rattle.pim_compile.proofs.Best.{best_too, both_best, first_of, first_too, one_best, one_wide, quick_each}
 use Rattle.pim_compile.proofs.Realized.{Realizes-same}
 
@@ -78,11 +78,11 @@ one_of g ports width most budget None values few inputs wide = one_wide (IsOfNet
 one_of g ports width most budget (Some p) values few inputs placed =
     one_best (IsOfNetwork g ports most budget) budget (nors g width) p (of_network g ports width most budget p values few inputs placed) placed.enough
 
-pub candidate_best : {E : Type 0} (g : AigView) (w : NorView) (ports : PortsView) (width : Width) (budget : ℕ) (r : Result (Option ProgramView) E) → w ≡ nors g width → HasOuts g w → nor_count (nors g Four).gates ≤ most_nors g → length ports.inputs ≡ g.inputs →
-    IfOk r (IsScheduleOf w ports budget) → IfOk r (IsBestOf g ports (most_nors g) budget (nors g width ∷ []))
-candidate_best g w ports width budget (Ok r) network values fewer inputs scheduled =
-    let S : NorView → Type 0 = λ x. IsScheduleOf x ports budget r in
-    one_of g ports width (most_nors g) budget r (subst (HasOuts g) network values) (by_width g width fewer) inputs (subst S network scheduled)
+pub candidate_best : {E : Type 0} (g : AigView) (w : NorView) (ports : PortsView) (width : Width) (budget : ℕ) (r : Result Fit E) → w ≡ nors g width → HasOuts g w → nor_count (nors g Four).gates ≤ most_nors g → length ports.inputs ≡ g.inputs →
+    IfOk r (λ f. IsScheduleOf w ports budget (program_of f)) → IfOk r (λ f. IsBestOf g ports (most_nors g) budget (nors g width ∷ []) (program_of f))
+candidate_best g w ports width budget (Ok f) network values fewer inputs scheduled =
+    let S : NorView → Type 0 = λ x. IsScheduleOf x ports budget (program_of f) in
+    one_of g ports width (most_nors g) budget (program_of f) (subst (HasOuts g) network values) (by_width g width fewer) inputs (subst S network scheduled)
 candidate_best g w ports width budget (Err e) network values fewer inputs scheduled = tt
 
 -- ---- of the tidied form those that have no more NORs
@@ -94,16 +94,15 @@ too_many g w ports width most budget network more =
     let B : Bool → Type 0 = λ b. IsBestOf g ports most budget (if b then nors g width ∷ [] else []) None in
     subst B (sym is) (All-nil (IsTooWide budget))
 
-pub few_enough : {E : Type 0} (g : AigView) (w : NorView) (ports : PortsView) (width : Width) (most budget : ℕ) (r : Result (Option ProgramView) E) → w ≡ nors g width → HasOuts g w → nor_count w.gates ≤ most → length ports.inputs ≡ g.inputs →
-    IfOk r (IsScheduleOf w ports budget) → IfOk r (IsBestOf g ports most budget (if_few most (nors g width)))
-few_enough g w ports width most budget (Ok r) network values fewer inputs scheduled =
+pub few_enough : (g : AigView) (w : NorView) (ports : PortsView) (width : Width) (most budget : ℕ) (r : Option ProgramView) → w ≡ nors g width → HasOuts g w → nor_count w.gates ≤ most → length ports.inputs ≡ g.inputs →
+    IsScheduleOf w ports budget r → IsBestOf g ports most budget (if_few most (nors g width)) r
+few_enough g w ports width most budget r network values fewer inputs scheduled =
     let F : NorView → Type 0 = λ x. nor_count x.gates ≤ most in
     let S : NorView → Type 0 = λ x. IsScheduleOf x ports budget r in
     let few = subst F network fewer in
     let is : nat_le (nor_count (nors g width).gates) most ≡ true = le-leb (nor_count (nors g width).gates) most few in
     let B : Bool → Type 0 = λ b. IsBestOf g ports most budget (if b then nors g width ∷ [] else []) r in
     subst B (sym is) (one_of g ports width most budget r (subst (HasOuts g) network values) few inputs (subst S network scheduled))
-few_enough g w ports width most budget (Err e) network values fewer inputs scheduled = tt
 
 -- what computes the tidied graph computes the graph
 from_tidy : (g : AigView) (ports : PortsView) (most budget : ℕ) → length ports.inputs ≡ g.inputs →
@@ -185,12 +184,6 @@ pub above_zero : (effort : Level) (g : AigView) → (effort ≡ level.One) ⊎ (
 above_zero effort g above =
     let N : Level → List NorView = λ e. networks_at e g in
     elim above [ inl one ↦ ap N one | inr two ↦ ap N two ]
-
--- where no network fits, the budget is below the need
-pub none_fits : (effort : Level) (g : AigView) (budget : ℕ) → All (IsTooWide budget) (networks_at effort g) → budget < need_of g Magic
-none_fits effort g budget all =
-    let both = of_flat (IsTooWide budget) g (flat_too effort (IsTooWide budget) g all) in
-    omega (arith, both.0.below, both.1.below)
 
 -- ---- from the flat graph to the netlist
 -- what is known of a netlist's flat graph and its labels
@@ -326,11 +319,6 @@ compiled_plim n g ports effort budget p f c = record {
 pub compiled : (n : NetView) (g : AigView) (ports : PortsView) (target : Target) (effort : Level) (budget : ℕ) (p : ProgramView) → IsFlat n g ports → IsScheduled g ports target effort budget p → IsCompiled n target effort budget p
 compiled n g ports Magic effort budget p f c = compiled_magic n g ports effort budget p f c
 compiled n g ports Plim effort budget p f c = compiled_plim n g ports effort budget p f c
-
--- what a call gives, where its program is compiled so
-pub compiled_gives : (n : NetView) (g : AigView) (ports : PortsView) (target : Target) (effort : Level) (budget : ℕ) (Q : ProgramView → Type 0) (r : Result ProgramView Refused) → ((p : ProgramView) → IsCompiled n target effort budget p → Q p) → IsFlat n g ports → IfOk r (IsScheduled g ports target effort budget) → IfOk r Q
-compiled_gives n g ports target effort budget Q (Ok p) gives f fits = gives p (compiled n g ports target effort budget p f fits)
-compiled_gives n g ports target effort budget Q (Err e) gives f fits = tt
 
 -- the bounds of a netlist are those of its flat graph
 coarse_same : (n : NetView) (g : AigView) (target : Target) → g ≡ flat n → length (flat n).ands ≡ ands n → coarse_of g target ≡ coarse_need n target

@@ -1,6 +1,6 @@
 -- The shorter of two PLiM programs, and of which schedules it takes no more cycles than.
-use Rattle.std.proofs.Common.{◌≡◌, ℕ, ◌<◌, ◌≤◌, Bool, true, false, if◌then◌else◌, List, [], ◌∷◌, ◌++◌, length, map, replicate, Option, Some, None, Result, Ok, Err, refl, sym, ◌∙◌, ap, subst, arith}
-use Rattle.std.specs.Prelude.{All, IfErr, IfOk, nat_le, nat_lt}
+use Rattle.std.proofs.Common.{◌≡◌, ℕ, ◌<◌, ◌≤◌, Bool, true, false, if◌then◌else◌, List, [], ◌∷◌, ◌++◌, length, map, replicate, Option, Some, None, refl, sym, ◌∙◌, ap, subst, arith}
+use Rattle.std.specs.Prelude.{All, IfSome, nat_le, nat_lt}
 use Rattle.std.proofs.lemmas.Bool.{leb-true, leb-false, ltb-true, ltb-false}
 use Rattle.std.proofs.lemmas.List.{length-map, length-replicate}
 use Rattle.std.proofs.lemmas.List.Elements.{All-append, All-cons, All-nil, All-weaker}
@@ -15,10 +15,8 @@ use Rattle.pim_mig.specs.Graph.{MigView}
 use Rattle.pim_mig.specs.Majs.{majs}
 use Rattle.pim_mig.specs.Values.{mval}
 use Rattle.pim_rewrite.specs.Rewritten.{rewritten}
-use Rattle.pim_rm3.specs.Costs.{needed_of, rm3_cost}
-use Rattle.pim_rm3.specs.Refusals.{IsUnfitFor}
+use Rattle.pim_rm3.specs.Costs.{rm3_cost}
 use Rattle.pim_rm3.specs.Steps.{enough_of, smart_cost}
-use Rattle.pim_rm3.specs.declared.refusal.SmartFault.{SmartFault}
 use Rattle.pim_tidy.specs.Tidied.{tidied}
 use Rattle.pim_compile.specs.Cycles.{IsSmartBy, graphs_at}
 use Rattle.pim_compile.specs.inner.Candidates.{IsProgramOf, shorter}
@@ -26,6 +24,10 @@ use Rattle.pim_compile.specs.inner.Smart.{IsBase, IsBaseOf, IsPassedOver, IsPlim
 use Rattle.pim_compile.specs.declared.compiling.Level.{Level}
 use Rattle.pim_compile.specs.declared.compiling.Level.TheVariants as level
 use Rattle.pim_compile.proofs.Realized.{Realizes-same}
+
+if_some : (P : ProgramView → Type 0) (r : Option ProgramView) → ((p : ProgramView) → r ≡ Some p → P p) → IfSome r P
+if_some P None gives = tt
+if_some P (Some p) gives = gives p refl
 
 module _ (g : AigView) (ports : PortsView) (budget : ℕ) where
   -- a shorter program too takes no more cycles than these schedules
@@ -38,7 +40,7 @@ module _ (g : AigView) (ports : PortsView) (budget : ℕ) where
   passed p ms few all =
       All-weaker (IsPassedOver g budget) (IsSmartBy budget p) (λ m h enough. (let more : rm3_cost g < smart_cost m = h enough in omega arith)) ms all
 
-  by_length : (b : Bool) (ms ns : List MigView) (p q : ProgramView) → b ≡ nat_lt (length q.instrs) (length p.instrs) → IsSmart g ports budget ms p → IsSmart g ports budget ns q → IsSmartest g ports budget (ms ++ ns) (if b then Some q else Some p)
+  by_length : (b : Bool) (ms ns : List MigView) (p q : ProgramView) → b ≡ nat_lt (length q.instrs) (length p.instrs) → IsSmart g ports budget ms p → IsSmart g ports budget ns q → IsSmartest g ports budget (ms ++ ns) (Some (if b then q else p))
   by_length true ms ns p q is here there =
       let less : length q.instrs < length p.instrs = ltb-true (length q.instrs) (length p.instrs) (sym is) in
       record {
@@ -77,7 +79,7 @@ module _ (g : AigView) (ports : PortsView) (budget : ℕ) where
   above_zero : (ms : List MigView) (r s : Option ProgramView) (p : ProgramView) → shorter r s ≡ Some p → IsSmartest g ports budget ms r → IsBaseOf g ports budget s → IsSmart g ports budget (ms ++ []) p
   above_zero ms r s p is smart base = subst (IsSmartest g ports budget (ms ++ [])) is (both_smart ms [] r s smart (as_smart s base))
 
-  pub plim : (effort : Level) (r s : Option ProgramView) (p : ProgramView) → shorter r s ≡ Some p → IsSmartestAt effort g ports budget r → IsBaseOf g ports budget s → IsPlim effort g ports budget p
+  plim : (effort : Level) (r s : Option ProgramView) (p : ProgramView) → shorter r s ≡ Some p → IsSmartestAt effort g ports budget r → IsBaseOf g ports budget s → IsPlim effort g ports budget p
   plim level.Zero r s p is smart base =
       let whole : s ≡ Some p = sym (ap (λ (o : Option ProgramView). shorter o s) smart) ∙ is in
       let found : IsBase g ports budget p = subst (IsBaseOf g ports budget) whole base in
@@ -88,6 +90,9 @@ module _ (g : AigView) (ports : PortsView) (budget : ℕ) where
   plim level.Two r s p is smart base =
       let found = above_zero (graphs_at level.Two g) r s p is smart base in
       record { program = found.program; cycles = record { few = found.few; smart = found.smart } }
+
+  pub plim_fits : (effort : Level) (r s : Option ProgramView) → IsSmartestAt effort g ports budget r → IsBaseOf g ports budget s → IfSome (shorter r s) (IsPlim effort g ports budget)
+  plim_fits effort r s smart base = if_some (IsPlim effort g ports budget) (shorter r s) (λ p is. plim effort r s p is smart base)
 
   -- of the two majority graphs of level 2
   pub two_graphs : (m r : MigView) (first second : Option ProgramView) → m ≡ majs (tidied g) → r ≡ rewritten m → IsSmartest g ports budget (r ∷ []) first → IsSmartest g ports budget (m ∷ []) second →

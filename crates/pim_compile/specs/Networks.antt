@@ -1,5 +1,5 @@
 -- What a netlist is scheduled from, and how many cells and instructions that asks for.
-use Rattle.std.specs.Prelude.{◌≡◌, ℕ, ◌+◌, ◌≤◌, ◌⊎◌, List, [], ◌∷◌, ◌++◌, if◌then◌else◌, min, nat_le, length}
+use Rattle.std.specs.Prelude.{ℕ, ◌+◌, ◌⊎◌, List, [], ◌∷◌, ◌++◌, if◌then◌else◌, min, nat_le, length}
 use Rattle.pim_aig.specs.Flat.{ands, flat}
 use Rattle.pim_aig.specs.Graph.{AigView}
 use Rattle.pim_isa.specs.Programs.{ProgramView}
@@ -8,9 +8,8 @@ use Rattle.pim_isa.specs.declared.target.Target.TheVariants.{Magic, Plim}
 use Rattle.pim_net.specs.Netlist.{NetView}
 use Rattle.pim_nor.specs.Lowered.{nors}
 use Rattle.pim_nor.specs.Network.{NorView, nor_count}
-use Rattle.pim_nor.specs.declared.lowering.Width.{Width}
 use Rattle.pim_nor.specs.declared.lowering.Width.TheVariants.{Two, Four}
-use Rattle.pim_rm3.specs.Costs.{made_outputs, needed_of as plim_needed_of, rm3_cost}
+use Rattle.pim_rm3.specs.Costs.{made_outputs, needed_of as plim_needed_of}
 use Rattle.pim_simpler.specs.Following.{Follows}
 use Rattle.pim_simpler.specs.Needs.{needed_of, order_of}
 use Rattle.pim_tidy.specs.Tidied.{tidied}

@@ -1,4 +1,4 @@
-ghost use Rattle.std.specs.Prelude.{◌≡◌, ◌≤◌, length, IfErr, IfOk, OnOk};
+ghost use Rattle.std.specs.Prelude.{◌≡◌, ◌≤◌, length, IfErr, IfOk, IfSome, OnOk};
 ghost use Rattle.pim_aig.specs.Faults.{Says};
 ghost use Rattle.pim_aig.specs.Flat.{ands, flat};
 ghost use Rattle.pim_aig.specs.declared.graph.TheConstants.{MAX_ANDS};
@@ -12,15 +12,17 @@ ghost use Rattle.pim_compile.specs.Cycles.{IsQuick, TakesCycles};
 ghost use Rattle.pim_compile.specs.Networks.{FollowsSome, coarse_need, coarse_of, need, need_of, nors_of_two};
 ghost use Rattle.pim_compile.specs.Refusals.{IsAccepted, IsCoarse, IsRefusal};
 ghost use Rattle.pim_compile.specs.Targets.{OnMagic, OnPlim};
-ghost use Rattle.pim_compile.specs.inner.Candidates.{IsScarce};
+ghost use Rattle.pim_compile.specs.inner.Fits.{TellsNeed, program_of};
 ghost use Rattle.pim_compile.specs.inner.Scheduled.{IsScheduled};
 
-use crate::ports::ports_of;
+use crate::fit::Fit;
+use crate::job::Job;
 use crate::{Refusal, magic, plim};
 use pim_aig::{Aig, FlatFault, flatten};
 use pim_io::NoMemory;
-use pim_isa::{Ports, Program, Target};
+use pim_isa::{Program, Target};
 use pim_net::Net;
+use pim_ports::ports_of;
 use std::alloc::Global;
 
 /// How much is done to make a program shorter.
@@ -99,26 +101,25 @@ pub fn compile(
 {
     let aig = flatten(alloc, net)?;
     let ports = ports_of(alloc, net)?;
-    scheduled(alloc, &aig, &ports, target, level, budget)
+    let job = Job {
+        alloc,
+        aig: &aig,
+        ports: &ports,
+        budget,
+    };
+    match best(&job, target, level)? {
+        Fit::Program(program) => Ok(program),
+        Fit::Needs(needed) => Err(Refusal::TooFewCells { needed }),
+    }
 }
 
-/// The program of a graph, for ports with these labels.
-fn scheduled(
-    alloc: Global,
-    aig: &Aig,
-    ports: &Ports,
-    target: Target,
-    level: Level,
-    budget: u32,
-) -> Result<Program, Refusal>
-    requires inputs { length ports.now.inputs ≡ aig.now.inputs }
-    requires outputs { length ports.now.outputs ≡ length aig.now.outputs }
-    requires within { budget ≤ MAX_CELLS }
-    ensures fits { IfOk result (IsScheduled aig.now ports.now target level budget) }
-    ensures refused { IfErr result (IsScarce (need_of aig.now target) (coarse_of aig.now target) budget) }
+/// The shortest program of a graph, or its need if none fits.
+fn best(job: &Job, target: Target, level: Level) -> Result<Fit, NoMemory>
+    ensures fits { IfOk result (λ fit. IfSome (program_of fit) (IsScheduled job.now.aig.now job.now.ports.now target level job.now.budget)) }
+    ensures need { IfOk result (TellsNeed (need_of job.now.aig.now target) (coarse_of job.now.aig.now target) job.now.budget) }
 {
     match target {
-        Target::Magic => magic::compiled(alloc, aig, ports, level, budget),
-        Target::Plim => plim::compiled(alloc, aig, ports, level, budget),
+        Target::Magic => magic::best(job, level),
+        Target::Plim => plim::best(job, level),
     }
 }

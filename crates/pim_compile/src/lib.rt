@@ -2,9 +2,10 @@
 #![tactic(auto)]
 
 mod compiling;
+mod fit;
+mod job;
 mod magic;
 mod plim;
-mod ports;
 mod refusal;
 mod shorter;
 #[cfg(test)]

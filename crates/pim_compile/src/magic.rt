@@ -1,7 +1,6 @@
 //! A graph becomes a MAGIC program: it is lowered twice, and above level 0 its tidied form too; the networks are scheduled, and the
 //! shortest program is taken.
-ghost use Rattle.std.specs.Prelude.{◌≡◌, ◌+◌, ◌≤◌, [], ◌∷◌, length, IfErr, IfOk};
-ghost use Rattle.pim_isa.specs.declared.draft.TheConstants.{MAX_CELLS};
+ghost use Rattle.std.specs.Prelude.{◌≡◌, ◌+◌, ◌≤◌, [], ◌∷◌, length, IfOk};
 ghost use Rattle.pim_isa.specs.declared.target.Target.TheVariants as target_is;
 ghost use Rattle.pim_nor.specs.Lowered.{nors};
 ghost use Rattle.pim_nor.specs.Network.{nor_count};
@@ -9,13 +8,16 @@ ghost use Rattle.pim_nor.specs.declared.lowering.Width.TheVariants as width_is;
 ghost use Rattle.pim_simpler.specs.Needs.{needed_of};
 ghost use Rattle.pim_tidy.specs.Tidied.{tidied};
 ghost use Rattle.pim_compile.specs.Networks.{coarse_of, if_few, most_nors, need_of, networks_at, networks_of, tidy_networks};
-ghost use Rattle.pim_compile.specs.inner.Candidates.{IsBestOf, IsMagic, IsScarce, IsScheduleOf};
+ghost use Rattle.pim_compile.specs.inner.Candidates.{IsBestOf, IsScheduleOf};
+ghost use Rattle.pim_compile.specs.inner.Fits.{TellsNeed, program_of};
 
+use crate::Level;
+use crate::fit::Fit;
+use crate::job::Job;
 use crate::shorter::shorter;
-use crate::{Level, Refusal};
 use pim_aig::Aig;
 use pim_io::NoMemory;
-use pim_isa::{Ports, Program};
+use pim_isa::Program;
 use pim_nor::{NorNet, Width, lower};
 use pim_simpler::schedule;
 use pim_tidy::tidy;
@@ -40,141 +42,83 @@ fn needed_at(alloc: Global, aig: &Aig, width: Width) -> Result<u32, NoMemory>
     pim_simpler::needed(alloc, &network)
 }
 
-/// The MAGIC program of a graph: of its networks' programs that fit the one with the fewest cycles.
-pub(crate) fn compiled(
-    alloc: Global,
-    aig: &Aig,
-    ports: &Ports,
-    level: Level,
-    budget: u32,
-) -> Result<Program, Refusal>
-    requires inputs { length ports.now.inputs ≡ aig.now.inputs }
-    requires outputs { length ports.now.outputs ≡ length aig.now.outputs }
-    requires within { budget ≤ MAX_CELLS }
-    ensures fits { IfOk result (IsMagic level aig.now ports.now budget) }
-    ensures refused { IfErr result (IsScarce (need_of aig.now target_is.Magic) (coarse_of aig.now target_is.Magic) budget) }
-{
-    match best(alloc, aig, ports, level, budget)? {
-        Some(program) => Ok(program),
-        None => Err(Refusal::TooFewCells {
-            needed: needed(alloc, aig)?,
-        }),
-    }
-}
-
-/// The shortest program of the networks that a level tries, if one fits.
-fn best(
-    alloc: Global,
-    aig: &Aig,
-    ports: &Ports,
-    level: Level,
-    budget: u32,
-) -> Result<Option<Program>, NoMemory>
-    requires inputs { length ports.now.inputs ≡ aig.now.inputs }
-    requires outputs { length ports.now.outputs ≡ length aig.now.outputs }
-    requires within { budget ≤ MAX_CELLS }
-    ensures { IfOk result (IsBestOf aig.now ports.now (most_nors aig.now) budget (networks_at level aig.now)) }
+/// The shortest program of the networks that a level tries, or the need of the graph's own networks if none fits.
+pub(crate) fn best(job: &Job, level: Level) -> Result<Fit, NoMemory>
+    ensures best { IfOk result (λ fit. IsBestOf job.now.aig.now job.now.ports.now (most_nors job.now.aig.now) job.now.budget
+        (networks_at level job.now.aig.now) (program_of fit)) }
+    ensures need { IfOk result
+        (TellsNeed (need_of job.now.aig.now target_is.Magic) (coarse_of job.now.aig.now target_is.Magic) job.now.budget) }
 {
     match level {
-        Level::Zero => best_flat(alloc, aig, ports, budget),
+        Level::Zero => best_flat(job),
         Level::One | Level::Two => {
-            let tidy = best_tidy(alloc, aig, ports, budget)?;
-            let flat = best_flat(alloc, aig, ports, budget)?;
-            Ok(shorter(tidy, flat))
+            let tidy = best_tidy(job)?;
+            let flat = best_flat(job)?;
+            Ok(flat.beside(tidy))
         }
     }
 }
 
-/// The shorter program of a graph's own networks, if one fits.
-fn best_flat(
-    alloc: Global,
-    aig: &Aig,
-    ports: &Ports,
-    budget: u32,
-) -> Result<Option<Program>, NoMemory>
-    requires inputs { length ports.now.inputs ≡ aig.now.inputs }
-    requires outputs { length ports.now.outputs ≡ length aig.now.outputs }
-    requires within { budget ≤ MAX_CELLS }
-    ensures { IfOk result (IsBestOf aig.now ports.now (most_nors aig.now) budget (networks_of aig.now)) }
+/// The shorter program of a graph's own networks, or the lesser need if none fits.
+fn best_flat(job: &Job) -> Result<Fit, NoMemory>
+    ensures best { IfOk result (λ fit. IsBestOf job.now.aig.now job.now.ports.now (most_nors job.now.aig.now) job.now.budget
+        (networks_of job.now.aig.now) (program_of fit)) }
+    ensures need { IfOk result
+        (TellsNeed (need_of job.now.aig.now target_is.Magic) (coarse_of job.now.aig.now target_is.Magic) job.now.budget) }
 {
-    let four = candidate(alloc, aig, Width::Four, ports, budget)?;
-    let two = candidate(alloc, aig, Width::Two, ports, budget)?;
-    Ok(shorter(four, two))
+    let four = candidate(job, Width::Four)?;
+    let two = candidate(job, Width::Two)?;
+    Ok(four.joined(two))
 }
 
-/// The program of a graph's network with gates of at most so many operands, if it fits.
-fn candidate(
-    alloc: Global,
-    aig: &Aig,
-    width: Width,
-    ports: &Ports,
-    budget: u32,
-) -> Result<Option<Program>, NoMemory>
-    requires inputs { length ports.now.inputs ≡ aig.now.inputs }
-    requires outputs { length ports.now.outputs ≡ length aig.now.outputs }
-    requires within { budget ≤ MAX_CELLS }
-    ensures { IfOk result (IsBestOf aig.now ports.now (most_nors aig.now) budget (nors aig.now width ∷ [])) }
+/// The program of a graph's network with gates of at most so many operands, or that network's need.
+fn candidate(job: &Job, width: Width) -> Result<Fit, NoMemory>
+    ensures best { IfOk result (λ fit. IsBestOf job.now.aig.now job.now.ports.now (most_nors job.now.aig.now) job.now.budget
+        (nors job.now.aig.now width ∷ []) (program_of fit)) }
+    ensures need { IfOk result (TellsNeed (needed_of (nors job.now.aig.now width))
+        (job.now.aig.now.inputs + nor_count (nors job.now.aig.now width).gates + 1) job.now.budget) }
 {
-    let network = lower(alloc, aig, width)?;
-    scheduled(alloc, &network, ports, budget)
+    let network = lower(job.alloc, job.aig, width)?;
+    scheduled(job, &network)
 }
 
 /// The shorter program of the networks of a graph's tidied form, if one fits: of those with no more NORs than the graph's own of
 /// up to two operands.
-fn best_tidy(
-    alloc: Global,
-    aig: &Aig,
-    ports: &Ports,
-    budget: u32,
-) -> Result<Option<Program>, NoMemory>
-    requires inputs { length ports.now.inputs ≡ aig.now.inputs }
-    requires outputs { length ports.now.outputs ≡ length aig.now.outputs }
-    requires within { budget ≤ MAX_CELLS }
-    ensures { IfOk result (IsBestOf aig.now ports.now (most_nors aig.now) budget (tidy_networks aig.now)) }
+fn best_tidy(job: &Job) -> Result<Option<Program>, NoMemory>
+    ensures { IfOk result (IsBestOf job.now.aig.now job.now.ports.now (most_nors job.now.aig.now) job.now.budget (tidy_networks job.now.aig.now)) }
 {
-    let tidy = tidy(alloc, aig)?;
-    let most = lower(alloc, aig, Width::Two)?.nors();
-    let four = thrifty(alloc, &tidy, Width::Four, most, ports, budget)?;
-    let two = thrifty(alloc, &tidy, Width::Two, most, ports, budget)?;
+    let tidy = tidy(job.alloc, job.aig)?;
+    let most = lower(job.alloc, job.aig, Width::Two)?.nors();
+    let four = thrifty(job, &tidy, Width::Four, most)?;
+    let two = thrifty(job, &tidy, Width::Two, most)?;
     Ok(shorter(four, two))
 }
 
-/// The program of a graph's network with gates of at most so many operands, if it fits and has no more NORs than `most`.
-fn thrifty(
-    alloc: Global,
-    aig: &Aig,
-    width: Width,
-    most: u32,
-    ports: &Ports,
-    budget: u32,
-) -> Result<Option<Program>, NoMemory>
-    requires inputs { length ports.now.inputs ≡ aig.now.inputs }
-    requires outputs { length ports.now.outputs ≡ length aig.now.outputs }
-    requires within { budget ≤ MAX_CELLS }
-    ensures { IfOk result (IsBestOf aig.now ports.now most budget (if_few most (nors aig.now width))) }
+/// The program of the network of a graph of the same ports, with gates of at most so many operands, if it fits and has no more NORs
+/// than `most`.
+fn thrifty(job: &Job, aig: &Aig, width: Width, most: u32) -> Result<Option<Program>, NoMemory>
+    requires inputs { aig.now.inputs ≡ job.now.aig.now.inputs }
+    requires outputs { length aig.now.outputs ≡ length job.now.aig.now.outputs }
+    ensures { IfOk result (IsBestOf aig.now job.now.ports.now most job.now.budget (if_few most (nors aig.now width))) }
 {
-    let network = lower(alloc, aig, width)?;
+    let network = lower(job.alloc, aig, width)?;
     if network.nors() > most {
         return Ok(None);
     }
-    scheduled(alloc, &network, ports, budget)
+    let fit = scheduled(job, &network)?;
+    Ok(fit.program())
 }
 
-/// The program of a network, if it fits.
-fn scheduled(
-    alloc: Global,
-    network: &NorNet,
-    ports: &Ports,
-    budget: u32,
-) -> Result<Option<Program>, NoMemory>
-    requires inputs { length ports.now.inputs ≡ network.now.inputs }
-    requires outputs { length ports.now.outputs ≡ length network.now.outs }
-    requires within { budget ≤ MAX_CELLS }
-    ensures { IfOk result (IsScheduleOf network.now ports.now budget) }
+/// The program of a network of the same ports, or its need.
+fn scheduled(job: &Job, network: &NorNet) -> Result<Fit, NoMemory>
+    requires inputs { network.now.inputs ≡ job.now.aig.now.inputs }
+    requires outputs { length network.now.outs ≡ length job.now.aig.now.outputs }
+    ensures schedule { IfOk result (λ fit. IsScheduleOf network.now job.now.ports.now job.now.budget (program_of fit)) }
+    ensures need { IfOk result (TellsNeed (needed_of network.now) (network.now.inputs + nor_count network.now.gates + 1) job.now.budget) }
 {
-    match schedule(alloc, network, ports, budget) {
-        Ok(program) => Ok(Some(program)),
-        Err(pim_simpler::Refusal::TooFewCells { .. }) => Ok(None),
+    match schedule(job.alloc, network, job.ports, job.budget) {
+        Ok(program) => Ok(Fit::Program(program)),
+        Err(pim_simpler::Refusal::TooFewCells { needed }) => Ok(Fit::Needs(needed)),
         Err(pim_simpler::Refusal::NoMemory) => Err(NoMemory),
     }
 }

@@ -1,5 +1,5 @@
 ghost use Rattle.std.specs.Prelude.{◌≡◌};
-ghost use Rattle.pim_compile.specs.inner.Candidates.{shorter};
+ghost use Rattle.pim_compile.specs.inner.Candidates.{shorter, shorter_of};
 
 use pim_isa::Program;
 
@@ -15,8 +15,8 @@ pub(crate) fn shorter(first: Option<Program>, second: Option<Program>) -> Option
 }
 
 /// The program with fewer cycles, and the first one if they have as many.
-fn shorter_of(first: Program, second: Program) -> Program
-    ensures { Some result ≡ shorter (Some first) (Some second) }
+pub(crate) fn shorter_of(first: Program, second: Program) -> Program
+    ensures { result ≡ shorter_of first second }
 {
     if second.instrs().len() < first.instrs().len() {
         second

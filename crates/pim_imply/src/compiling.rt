@@ -5,12 +5,12 @@ ghost use Rattle.pim_isa.specs.declared.draft.TheConstants.{MAX_CELLS};
 ghost use Rattle.pim_imply.specs.Compiled.{IComputes, IsUnfit};
 ghost use Rattle.pim_imply.specs.Costs.{impcost, needed_of};
 
-use crate::ports::ports_of;
 use crate::program::ImplyProgram;
 use crate::refusal::{ImplyRefusal, Refusal};
 use crate::scheduling::imply;
 use pim_aig::flatten;
 use pim_net::Net;
+use pim_ports::ports_of;
 use std::alloc::Global;
 
 /// Compiles a netlist to a program for at most `budget` cells: it is flattened, and the flat graph is scheduled. Input k stands in

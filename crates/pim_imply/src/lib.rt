@@ -13,7 +13,6 @@ mod kept;
 mod lines;
 mod machine;
 mod parsing;
-mod ports;
 mod printing;
 mod program;
 mod reader;

@@ -97,8 +97,12 @@ IsScarce needed most budget (refused.TooFewCells told) = IsShortBy needed most b
 IsScarce needed most budget refused.TooLarge = ⊥
 IsScarce needed most budget refused.NoMemory = Unit {0}
 
--- the one of two programs that has fewer cycles, the first where they have as many: either may be missing
+-- the one of two programs that has fewer cycles, the first where they have as many
+abbrev pub shorter_of : ProgramView → ProgramView → ProgramView
+shorter_of p q = if nat_lt (length q.instrs) (length p.instrs) then q else p
+
+-- the same where either may be missing
 abbrev pub shorter : Option ProgramView → Option ProgramView → Option ProgramView
 shorter None second = second
 shorter (Some p) None = Some p
-shorter (Some p) (Some q) = if nat_lt (length q.instrs) (length p.instrs) then Some q else Some p
+shorter (Some p) (Some q) = Some (shorter_of p q)

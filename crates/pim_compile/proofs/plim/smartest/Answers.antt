@@ -13,14 +13,14 @@ sparing-requires-in-Two-clause-outputs c =
     let m = c.in_ok-mig-in-Two.mig in
     let r = c.in_ok-rewritten-in-Two.rewritten in
     let many : length r.outputs ≡ length m.outputs = as_many m.inputs r.outputs m.outputs (mval r) (mval m) c.in_ok-rewritten-in-Two.ensures.values in
-    c.requires.outputs ∙ (sym c.in_ok-mig-in-Two.ensures.outputs ∙ sym many)
+    many ∙ c.in_ok-mig-in-Two.ensures.outputs
 
 pub returns-in_ok-second-in-Two : goal.returns-in_ok-second-in-Two
 returns-in_ok-second-in-Two c =
-    let g = c.args.aig.now in
-    let S : Option ProgramView → Type 0 = IsSmartest g c.args.ports.now c.args.budget (graphs_at level.Two g) in
-    let found : IsSmartestAt level.Two g c.args.ports.now c.args.budget c.shorter.result =
+    let g = c.args.job.now.aig.now in
+    let S : Option ProgramView → Type 0 = IsSmartest g c.args.job.now.ports.now c.args.job.now.budget (graphs_at level.Two g) in
+    let found : IsSmartestAt level.Two g c.args.job.now.ports.now c.args.job.now.budget c.shorter.result =
     subst S (sym c.shorter.ensures)
-    (two_graphs g c.args.ports.now c.args.budget c.in_ok-mig-in-Two.mig c.in_ok-rewritten-in-Two.rewritten c.in_ok-first-in-Two.first c.in_ok-second-in-Two.second c.in_ok-mig-in-Two.ensures.majs c.in_ok-rewritten-in-Two.ensures.rewritten c.in_ok-first-in-Two.ensures c.in_ok-second-in-Two.ensures) in
-    let L : Level → Type 0 = λ e. IsSmartestAt e g c.args.ports.now c.args.budget c.shorter.result in
+    (two_graphs g c.args.job.now.ports.now c.args.job.now.budget c.in_ok-mig-in-Two.mig c.in_ok-rewritten-in-Two.rewritten c.in_ok-first-in-Two.first c.in_ok-second-in-Two.second c.in_ok-mig-in-Two.ensures.majs c.in_ok-rewritten-in-Two.ensures.rewritten c.in_ok-first-in-Two.ensures c.in_ok-second-in-Two.ensures) in
+    let L : Level → Type 0 = λ e. IsSmartestAt e g c.args.job.now.ports.now c.args.job.now.budget c.shorter.result in
     subst L (sym c.in-Two.is) found

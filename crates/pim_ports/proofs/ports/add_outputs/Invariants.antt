@@ -1,5 +1,5 @@
 use Rattle.std.proofs.Common.{◌≡◌, ◌++◌, take}
-use Rattle.pim_compile.proofs.ports.add_outputs.Given as goal
+use Rattle.pim_ports.proofs.ports.add_outputs.Given as goal
 
 -- the ports so far have the labels of the first outputs
 abbrev pub invariant-loop-k : goal.invariant-loop-k

@@ -1,5 +1,5 @@
 use Rattle.std.proofs.Common.{◌≡◌, ◌++◌, take}
-use Rattle.pim_imply.proofs.ports.add_inputs.Given as goal
+use Rattle.pim_ports.proofs.ports.add_inputs.Given as goal
 
 -- the ports so far have the labels of the first inputs
 abbrev pub invariant-loop-k : goal.invariant-loop-k

@@ -6,7 +6,7 @@ use pim_net::Net;
 use std::alloc::Global;
 
 /// The labels of a netlist's inputs and outputs.
-pub(crate) fn ports_of(alloc: Global, net: &Net) -> Result<Ports, NoMemory>
+pub fn ports_of(alloc: Global, net: &Net) -> Result<Ports, NoMemory>
     ensures inputs { IfOk result (λ ports. ports.inputs ≡ net.now.input_labels) }
     ensures outputs { IfOk result (λ ports. ports.outputs ≡ net.now.output_labels) }
     ensures as_many_inputs { IfOk result (λ ports. length ports.inputs ≡ length net.now.inputs) }
