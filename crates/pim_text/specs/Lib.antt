@@ -5,4 +5,6 @@ pub mod PortLines
 pub mod LineForms
 pub mod InstrForms
 pub mod LineLaws
+pub mod Parts
+pub mod Reading
 pub mod inner

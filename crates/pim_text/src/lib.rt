@@ -3,17 +3,25 @@
 #![tactic(auto)]
 
 mod cells;
+mod draft;
+mod fault;
 mod fields;
 mod instrs;
 mod laws;
 mod lines;
 mod printing;
+mod reader;
+mod reading;
+mod section;
 mod text;
 
 pub use cells::{CellWords, PlainNumbers};
+pub use draft::Draft;
+pub use fault::TextFault;
 pub use fields::{Fields, WordWalk, behind, is_text, plain_number};
 pub use instrs::{instr_from, line_instr};
 pub use laws::line_laws;
 pub use lines::{PortLine, counted, port, target};
 pub use printing::{push_instr, push_ports, target_name};
+pub use reading::{read_draft, text_laws};
 pub use text::Text;
