@@ -9,17 +9,14 @@ mod fault;
 mod graph;
 mod instr;
 mod invalid;
-mod kept;
 mod lines;
 mod machine;
 mod parsing;
 mod ports;
 mod printing;
 mod program;
-mod reader;
 mod refusal;
 mod scheduling;
-mod section;
 #[cfg(test)]
 mod tests;
 

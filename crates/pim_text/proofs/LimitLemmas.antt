@@ -13,7 +13,7 @@ use Rattle.pim_text.specs.declared.section.Section.{Section}
 use Rattle.pim_text.specs.declared.section.Section.TheVariants as section
 use Rattle.pim_text.specs.LineForms.{target_of, counted_of, port_of}
 use Rattle.pim_text.specs.Parts.{Kind, Parts}
-use Rattle.pim_text.specs.Reading.{Reading, start, begun, with_input, with_output, with_instr, behind_first, after_input, after_output, after_cycles, after_outputs, after_inputs, after_end, after_in, after, is_ended, line_read, read_from, any_size, parts_of, sized}
+use Rattle.pim_text.specs.Reading.{Reading, start, aimed, begun, with_input, with_output, with_instr, behind_first, after_input, after_output, after_cycles, after_outputs, after_inputs, after_end, after_in, after, is_ended, line_read, read_from, any_size, parts_of, sized}
 use Rattle.pim_text.specs.inner.Kept.{within_limit, parts_within_limit}
 
 -- options
@@ -89,7 +89,7 @@ module _ {I : Type 0} (kind : Kind I) where
   after_kept : (s : Section) (o : Option (Parts I)) (line : List ℕ) → after_in kind within_limit s (kept_draft o) line ≡ option_map kept (after_in kind any_size s o line)
   after_kept section.First o line = map-cond kept (bytes_eq line kind.first) (record { section = behind_first kind.target; draft = o })
   after_kept section.Target o line = map-map kept (λ target. record { section = section.Cells target; draft = o }) (target_of line)
-  after_kept (section.Cells target) o line = map-map kept (λ (n : ℕ). record { section = section.Inputs; draft = any_size (begun target n) }) (counted_of (codes "cells ") line)
+  after_kept (section.Cells target) o line = map-map kept (λ (n : ℕ). record { section = section.Inputs; draft = any_size (begun (aimed kind.target target) n) }) (counted_of (codes "cells ") line)
   after_kept section.Inputs o line = inputs_kept o line
   after_kept section.Outputs o line = outputs_kept o line
   after_kept (section.Instrs left) o line = instrs_kept (eqb left 0) left o line

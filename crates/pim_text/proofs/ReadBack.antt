@@ -19,6 +19,7 @@ use Rattle.pim_text.specs.Parts.{Kind, IsKind, Parts, instrs_text, told_target, 
 use Rattle.pim_text.specs.Reading.{Reading, start, begun, with_input, with_output, with_instr, behind_first, after, is_ended, read_from, any_size, parts_of}
 use Rattle.pim_text.specs.Spelled.{HasPortLine}
 use Rattle.pim_text.specs.Text.{target_line, counted_text, port_line, port_text, ports_text}
+use Rattle.pim_text.proofs.WholeText.{aimed_is}
 
 -- the bytes from a line on, which begins at this place
 abbrev read_at : {I : Type 0} → Kind I → ℕ → ℕ → Reading I → List ℕ → Result (Parts I) TextFault
@@ -132,16 +133,17 @@ module _ {I : Type 0} (kind : Kind I) (laws : ReadLines) (lack : LackNewlines) (
       line_passes (record { section = section.Target; draft = None }) (target_read target) (target_line target) refl (lack.target target) (rw (laws.target target) refl)
   told_passes (Some only) target h = subst (λ (t : Target). Passes kind (target_read only) [] (target_read t)) (sym h) (passes_nil (target_read only))
 
-  cells_pass : (target : Target) (cells : ℕ) → cells < 2 ^ 32 → Passes kind (target_read target) ((codes "cells " ++ decimal cells) ++ codes "\n") (inputs_read (begun target cells))
-  cells_pass target cells small =
-      line_passes (target_read target) (inputs_read (begun target cells)) (codes "cells " ++ decimal cells) refl (lack.counted (codes "cells ") cells refl small) (rw (laws.counted (codes "cells ") cells small) refl)
+  cells_pass : (target : Target) (cells : ℕ) → IsTold kind.target target → cells < 2 ^ 32 → Passes kind (target_read target) ((codes "cells " ++ decimal cells) ++ codes "\n") (inputs_read (begun target cells))
+  cells_pass target cells told small =
+      let same = aimed_is kind.target target told in
+      line_passes (target_read target) (inputs_read (begun target cells)) (codes "cells " ++ decimal cells) refl (lack.counted (codes "cells ") cells refl small) (rw (laws.counted (codes "cells ") cells small, same) refl)
 
   head_passes : (target : Target) (cells : ℕ) → IsTold kind.target target → cells < 2 ^ 32 → Passes kind start (head_text kind target cells) (inputs_read (begun target cells))
   head_passes target cells told small =
       let first = kind.first ++ codes "\n" in
       let aimed = told_target kind.target target in
       let two : Passes kind start (first ++ aimed) (target_read target) = passes_both start first_read (target_read target) first aimed first_passes (told_passes kind.target target told) in
-      passes_both start (target_read target) (inputs_read (begun target cells)) (first ++ aimed) (counted_text (codes "cells ") cells) two (cells_pass target cells small)
+      passes_both start (target_read target) (inputs_read (begun target cells)) (first ++ aimed) (counted_text (codes "cells ") cells) two (cells_pass target cells told small)
 
   inputs_pass : (d : Parts I) (ports : List Port) → AllByRecursion HasPortLine ports → Passes kind (inputs_read d) (ports_text (codes "input ") ports) (inputs_read (record d { inputs = d.inputs ++ ports }))
   inputs_pass d [] h = subst (λ (ps : List Port). Passes kind (inputs_read d) [] (inputs_read (record d { inputs = ps }))) (sym (append-nil d.inputs)) (passes_nil (inputs_read d))

@@ -19,7 +19,7 @@ use Rattle.pim_text.specs.declared.section.Section.TheVariants as section
 use Rattle.pim_text.specs.LineForms.{target_of, counted_of, port_of}
 use Rattle.pim_text.specs.LineLaws.{OneLine}
 use Rattle.pim_text.specs.Parts.{Kind, IsKind, Parts, instrs_text, told_target, head_text, text as text_of, IsTold, HasText}
-use Rattle.pim_text.specs.Reading.{Reading, start, begun, with_input, with_output, with_instr, behind_first, after_first, after_target, after_cells, after_input, after_output, after_cycles, after_outputs, after_inputs, after_end, after_instrs, after_in, after, is_ended, line_read, read_from, any_size, parts_of}
+use Rattle.pim_text.specs.Reading.{Reading, start, aimed, begun, with_input, with_output, with_instr, behind_first, after_first, after_target, after_cells, after_input, after_output, after_cycles, after_outputs, after_inputs, after_end, after_instrs, after_in, after, is_ended, line_read, read_from, any_size, parts_of}
 use Rattle.pim_text.specs.Spelled.{HasPortLine}
 use Rattle.pim_text.specs.Text.{counted_text, port_text, ports_text, target_line}
 use Rattle.pim_text.proofs.OptionLemmas.{mapped, or_is, ok_is, bind_ok, judged_line}
@@ -54,7 +54,7 @@ IsRead kind i = kind.instr_of (kind.instr_text i) ≡ Some i
 
 pub record CellsRead {I : Type 0} (kind : Kind I) (target : Target) (read : List ℕ) : Type 0 where
   pub spelled : read ≡ kind_text kind target
-  pub target : IsTold kind.target target
+  pub told : IsTold kind.target target
 
 pub record InputsRead {I : Type 0} (kind : Kind I) (d : Parts I) (read : List ℕ) : Type 0 where
   pub spelled : read ≡ head_text kind d.target d.cells ++ ports_text (codes "input ") d.inputs
@@ -97,12 +97,17 @@ ReadSo kind section.Ended draft read = MatchOption draft ⊥ (λ d. EndedRead ki
 abbrev Stands : {I : Type 0} → Kind I → Reading I → List ℕ → Type 0
 Stands kind r read = ReadSo kind r.section r.draft read
 
+-- a target that is told is the draft's
+pub aimed_is : (t : Option Target) (target : Target) → IsTold t target → aimed t target ≡ target
+aimed_is None target h = refl
+aimed_is (Some only) target h = sym h
+
 -- what becomes of the first line, by whether a line tells the target
 behind_first_stands : {I : Type 0} (kind : Kind I) (t : Option Target) (draft : Option (Parts I)) (read : List ℕ) → kind.target ≡ t → read ≡ kind.first ++ codes "\n" → ReadSo kind (behind_first t) draft read
 behind_first_stands kind None draft read e h = (e, h)
 behind_first_stands kind (Some only) draft read e h = record {
   spelled = h ∙ sym (append-nil (kind.first ++ codes "\n")) ∙ ap (λ (t : Option Target). (kind.first ++ codes "\n") ++ told_target t only) (sym e);
-  target = subst (λ (t : Option Target). IsTold t only) (sym e) refl;
+  told = subst (λ (t : Option Target). IsTold t only) (sym e) refl;
 }
 
 module _ {I : Type 0} (kind : Kind I) (laws : OneLine) (is_kind : IsKind kind) where
@@ -121,17 +126,18 @@ module _ {I : Type 0} (kind : Kind I) (laws : OneLine) (is_kind : IsKind kind) w
       let so_far : longer read line ≡ (kind.first ++ codes "\n") ++ told_target None m.0 = ap (λ (r : List ℕ). longer r line) h.1 ∙ ap (λ (l : List ℕ). longer (kind.first ++ codes "\n") l) line_is in
       let stands : CellsRead kind m.0 (longer read line) = record {
         spelled = so_far ∙ ap (λ (t : Option Target). (kind.first ++ codes "\n") ++ told_target t m.0) (sym h.0);
-        target = subst (λ (t : Option Target). IsTold t m.0) (sym h.0) tt;
+        told = subst (λ (t : Option Target). IsTold t m.0) (sym h.0) tt;
       } in
       subst (λ (n : Reading I). Stands kind n (longer read line)) m.2 stands
 
-  cells_stand : (read line : List ℕ) (target : Target) (next : Reading I) → CellsRead kind target read → after_cells any_size target line ≡ Some next → Stands kind next (longer read line)
+  cells_stand : (read line : List ℕ) (target : Target) (next : Reading I) → CellsRead kind target read → after_cells kind any_size target line ≡ Some next → Stands kind next (longer read line)
   cells_stand read line target next h e =
-      let m = mapped (λ (n : ℕ). let made : Reading I = record { section = section.Inputs; draft = Some (begun target n) } in made) (counted_of (codes "cells ") line) next e in
+      let m = mapped (λ (n : ℕ). let made : Reading I = record { section = section.Inputs; draft = Some (begun (aimed kind.target target) n) } in made) (counted_of (codes "cells ") line) next e in
       let number = laws.counted (codes "cells ") line m.0 m.1 in
       let so_far : longer read line ≡ head_text kind target m.0 = ap (λ (r : List ℕ). longer r line) h.spelled ∙ ap (λ (l : List ℕ). longer (kind_text kind target) l) number.0 in
-      let stands : InputsRead kind (begun target m.0) (longer read line) = record { spelled = so_far ∙ sym (append-nil (head_text kind target m.0)); target = h.target; cells = number.1; inputs = tt; no_outputs = refl; no_instrs = refl } in
-      subst (λ (n : Reading I). Stands kind n (longer read line)) m.2 stands
+      let stands : InputsRead kind (begun target m.0) (longer read line) = record { spelled = so_far ∙ sym (append-nil (head_text kind target m.0)); target = h.told; cells = number.1; inputs = tt; no_outputs = refl; no_instrs = refl } in
+      let aimed_so : InputsRead kind (begun (aimed kind.target target) m.0) (longer read line) = subst (λ (t : Target). InputsRead kind (begun t m.0) (longer read line)) (sym (aimed_is kind.target target h.told)) stands in
+      subst (λ (n : Reading I). Stands kind n (longer read line)) m.2 aimed_so
 
   input_stands : (read line : List ℕ) (draft : Option (Parts I)) (next : Reading I) → ReadSo kind section.Inputs draft read → after_input draft line ≡ Some next → Stands kind next (longer read line)
   input_stands read line None next h e = absurd h

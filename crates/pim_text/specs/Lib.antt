@@ -7,4 +7,5 @@ pub mod InstrForms
 pub mod LineLaws
 pub mod Parts
 pub mod Reading
+pub mod ProgramTexts
 pub mod inner

@@ -1,6 +1,6 @@
 -- Reading the lines of a program's text of any kind. They stand in this order: the first line, the target where the kind has
 -- several, the cells, the inputs, the outputs, the number of cycles, as many instructions, and `end`.
-use Rattle.std.specs.Prelude.{ℕ, ◌-◌, ◌==◌, ◌||◌, nat_lt, Bool, true, false, if◌then◌else◌, List, [], ◌∷◌, ◌++◌, codes, Option, Some, None, option_map, Result, Ok, Err}
+use Rattle.std.specs.Prelude.{◌≡◌, ℕ, ◌<◌, length, take, ◌-◌, ◌==◌, ◌||◌, nat_lt, Bool, true, false, if◌then◌else◌, List, [], ◌∷◌, ◌++◌, codes, Option, Some, None, option_map, Result, Ok, Err}
 use Rattle.std.specs.Option.{option_or, ok_or}
 use Rattle.std.specs.Str.{bytes_eq}
 use Rattle.pim_io.specs.Lines.{LineView, lines}
@@ -13,7 +13,7 @@ use Rattle.pim_text.specs.declared.fault.TextFault.TheVariants as faults
 use Rattle.pim_text.specs.declared.section.Section.{Section}
 use Rattle.pim_text.specs.declared.section.Section.TheVariants as section
 use Rattle.pim_text.specs.LineForms.{target_of, counted_of, port_of}
-use Rattle.pim_text.specs.Parts.{Kind, Parts}
+use Rattle.pim_text.specs.Parts.{Kind, Parts, HasText, text}
 
 -- how far a text is read: which lines may come next, and the draft, which begins once the number of cells is told
 pub record Reading (I : Type 0) : Type 0 where
@@ -40,6 +40,11 @@ with_output port d = record d { outputs = d.outputs ++ port ∷ [] }
 abbrev pub with_instr : {I : Type 0} → I → Parts I → Parts I
 with_instr instr d = record d { instrs = d.instrs ++ instr ∷ [] }
 
+-- the target of a draft: that of all programs of the kind, or else the one that is told
+abbrev pub aimed : Option Target → Target → Target
+aimed None told = told
+aimed (Some only) told = only
+
 -- behind the first line the target follows, or the cells where all programs of the kind are for this target
 abbrev pub behind_first : Option Target → Section
 behind_first None = section.Target
@@ -55,9 +60,9 @@ abbrev pub after_target : {I : Type 0} → Option (Parts I) → List ℕ → Opt
 after_target draft line = option_map (λ target. record { section = section.Cells target; draft = draft }) (target_of line)
 
 -- the line of the cells is right behind the target; `keep` is what becomes of the draft that begins there
-abbrev pub after_cells : {I : Type 0} → (Parts I → Option (Parts I)) → Target → List ℕ → Option (Reading I)
-after_cells keep target line =
-    option_map (λ cells. record { section = section.Inputs; draft = keep (begun target cells) }) (counted_of (codes "cells ") line)
+abbrev pub after_cells : {I : Type 0} → Kind I → (Parts I → Option (Parts I)) → Target → List ℕ → Option (Reading I)
+after_cells kind keep told line =
+    option_map (λ cells. record { section = section.Inputs; draft = keep (begun (aimed kind.target told) cells) }) (counted_of (codes "cells ") line)
 
 -- the line of an input
 abbrev pub after_input : {I : Type 0} → Option (Parts I) → List ℕ → Option (Reading I)
@@ -98,7 +103,7 @@ after_instrs kind left draft line =
 abbrev pub after_in : {I : Type 0} → Kind I → (Parts I → Option (Parts I)) → Section → Option (Parts I) → List ℕ → Option (Reading I)
 after_in kind keep section.First draft line = after_first kind draft line
 after_in kind keep section.Target draft line = after_target draft line
-after_in kind keep (section.Cells target) draft line = after_cells keep target line
+after_in kind keep (section.Cells told) draft line = after_cells kind keep told line
 after_in kind keep section.Inputs draft line = after_inputs draft line
 after_in kind keep section.Outputs draft line = after_outputs draft line
 after_in kind keep (section.Instrs left) draft line = after_instrs kind left draft line
@@ -147,3 +152,9 @@ sized draft = if nat_lt MAX_CELLS draft.cells then Err faults.TooLarge else Ok d
 -- the same, unless the draft has too many cells
 abbrev pub sized_parts_of : {I : Type 0} → Kind I → List ℕ → Result (Parts I) TextFault
 sized_parts_of kind bytes = parts_of kind bytes >>= sized
+
+-- Laws of the texts of a kind: what is read is its text, a text is read as its parts, and a front of it as cut off.
+pub record TextLaws {I : Type 0} (kind : Kind I) : Type 0 where
+  pub one : (bytes : List ℕ) (p : Parts I) → parts_of kind bytes ≡ Ok p → (bytes ≡ text kind p) × HasText kind p
+  pub read : (p : Parts I) → HasText kind p → parts_of kind (text kind p) ≡ Ok p
+  pub cut : (p : Parts I) (k : ℕ) → HasText kind p → k < length (text kind p) → parts_of kind (take k (text kind p)) ≡ Err faults.Truncated

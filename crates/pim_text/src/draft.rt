@@ -2,7 +2,7 @@ ghost use Rattle.std.specs.Prelude.{◌≡◌, ◌≤◌, IfOk, OnOk};
 ghost use Rattle.pim_io.specs.Names.{IsLabel, label};
 ghost use Rattle.pim_text.specs.PortLines.{port_view};
 ghost use Rattle.pim_text.specs.Parts.{IsKind, Kind, Parts};
-ghost use Rattle.pim_text.specs.Reading.{begun, with_input, with_output, with_instr};
+ghost use Rattle.pim_text.specs.Reading.{aimed, begun, with_input, with_output, with_instr};
 
 use crate::lines::PortLine;
 use pim_io::NoMemory;
@@ -32,10 +32,10 @@ pub trait Draft: Drop {
     fn instr(alloc: Global, line: &[u8]) -> Result<Option<Self::Instr>, NoMemory>
         ensures { IfOk result (λ instr. instr ≡ kind.instr_of line.now) };
 
-    /// A draft without ports and instructions.
+    /// A draft without ports and instructions, for this target where the kind has several.
     fn begun(alloc: Global, target: Target, cells: u32) -> Self
         requires { cells ≤ MAX_CELLS }
-        ensures { parts result ≡ begun target cells };
+        ensures { parts result ≡ begun (aimed kind.target target) cells };
 
     /// Adds an input.
     fn put_input(&mut self, port: PortLine) -> Result<(), NoMemory>

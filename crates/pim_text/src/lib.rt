@@ -10,6 +10,7 @@ mod instrs;
 mod laws;
 mod lines;
 mod printing;
+mod programs;
 mod reader;
 mod reading;
 mod section;

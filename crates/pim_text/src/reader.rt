@@ -4,7 +4,7 @@ ghost use Rattle.pim_io.specs.Lines.{line_view};
 ghost use Rattle.pim_io.specs.Readings.{Gives};
 ghost use Rattle.pim_io.specs.Names.{IsLabel, label as label_of};
 ghost use Rattle.pim_text.specs.PortLines.{port_view};
-ghost use Rattle.pim_text.specs.Reading.{start, begun, with_input, with_output, with_instr, after_first, after_target, after_cells, after_input, after_output, after_cycles, after_outputs, after_inputs, after_end, after_instrs, after, finished, line_read};
+ghost use Rattle.pim_text.specs.Reading.{start, aimed, begun, with_input, with_output, with_instr, after_first, after_target, after_cells, after_input, after_output, after_cycles, after_outputs, after_inputs, after_end, after_instrs, after, finished, line_read};
 ghost use Rattle.pim_text.specs.inner.Kept.{within_limit, reading};
 
 use crate::draft::Draft;
@@ -113,7 +113,7 @@ impl<D: Draft> Reader<D> {
 
     /// The line of the number of cells, where the draft begins.
     fn cells(&mut self, target: Target, line: &[u8]) -> bool
-        ensures { after_cells within_limit target line.now
+        ensures { after_cells D.kind within_limit target line.now
             ≡ (if result then Some (reading D.parts self.new.section self.new.draft) else None) }
     {
         let Some(cells) = counted(b"cells ", line) else {
@@ -211,7 +211,7 @@ impl<D: Draft> Reader<D> {
 
 /// A draft without ports and instructions, if it has not too many cells.
 fn begun<D: Draft>(alloc: Global, target: Target, cells: u32) -> Option<D>
-    ensures { option_map D.parts result ≡ within_limit (begun target cells) }
+    ensures { option_map D.parts result ≡ within_limit (begun (aimed D.kind.target target) cells) }
 {
     if cells > MAX_CELLS {
         return None;

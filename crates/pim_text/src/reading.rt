@@ -1,8 +1,7 @@
-ghost use Rattle.std.specs.Prelude.{◌≡◌, ℕ, ◌<◌, ◌≤◌, List, length, take, Ok, Err, IfOk};
+ghost use Rattle.std.specs.Prelude.{◌≤◌, length, IfOk};
 ghost use Rattle.pim_io.specs.Readings.{Gives};
-ghost use Rattle.pim_text.specs.declared.fault.TextFault.TheVariants as faults;
-ghost use Rattle.pim_text.specs.Parts.{Parts, HasText, HasFewParts, text};
-ghost use Rattle.pim_text.specs.Reading.{parts_of, sized_parts_of};
+ghost use Rattle.pim_text.specs.Parts.{HasFewParts};
+ghost use Rattle.pim_text.specs.Reading.{TextLaws, sized_parts_of};
 ghost use Rattle.pim_text.specs.inner.Kept.{parts_within_limit};
 
 use crate::draft::Draft;
@@ -26,6 +25,7 @@ pub fn read_draft<D: Draft>(alloc: Global, bytes: &[u8]) -> Result<D, TextFault>
 
 /// The same, where a draft that is too large is dropped when it begins.
 fn kept<D: Draft>(alloc: Global, bytes: &[u8]) -> Result<D, TextFault>
+    requires { length bytes.now ≤ MAX_PROGRAM }
     ensures { Gives TextFault.NoMemory D.parts result (parts_within_limit D.kind bytes.now) }
 {
     let mut reader = Reader::new(alloc);
@@ -38,13 +38,7 @@ fn kept<D: Draft>(alloc: Global, bytes: &[u8]) -> Result<D, TextFault>
 
 /// The laws of the texts of a kind, for those who read and print them: it computes nothing.
 pub fn text_laws<D: Draft>()
-    // What is read is its text.
-    ensures one { (bytes : List ℕ) (p : Parts D.Instr) → parts_of D.kind bytes ≡ Ok p → (bytes ≡ text D.kind p) × HasText D.kind p }
-
-    // A text is read as its parts, and a front of it as cut off.
-    ensures read { (p : Parts D.Instr) → HasText D.kind p → parts_of D.kind (text D.kind p) ≡ Ok p }
-    ensures cut { (p : Parts D.Instr) (k : ℕ) → HasText D.kind p → k < length (text D.kind p)
-        → parts_of D.kind (take k (text D.kind p)) ≡ Err faults.Truncated }
+    ensures { TextLaws D.kind }
 {
     line_laws();
     D::tell_kind();
