@@ -31,13 +31,9 @@ use Rattle.pim_file.specs.inner.BinaryKept.{program2_within_limit}
 use Rattle.pim_file.proofs.ItemLemmas.{bind_ok}
 use Rattle.pim_file.proofs.BinaryLemmas.{draft2_is, draft2_of-bin}
 use Rattle.pim_file.proofs.KeptLemmas.{size_cases, parse2_of-kept}
-use Rattle.pim_file.proofs.Laws.{fault_cases, parse1_of-text, program_is}
+use Rattle.pim_file.proofs.Laws.{all_weaker, fault_cases, parse1_of-text, program_is}
 
 -- what holds of each element
-
-all_weaker : {X : Type 0} (P Q : X → Type 0) (xs : List X) → ((x : X) → P x → Q x) → AllByRecursion P xs → AllByRecursion Q xs
-all_weaker P Q [] f h = tt
-all_weaker P Q (x ∷ xs) f h = (f x h.0, all_weaker P Q xs f h.1)
 
 all_front : (P : ℕ → Type 0) (xs ys : List ℕ) → AllByRecursion P (xs ++ ys) → AllByRecursion P xs
 all_front P [] ys h = tt

@@ -12,6 +12,7 @@ use Rattle.pim_isa.specs.declared.target.Target.{Target}
 use Rattle.pim_isa.specs.Programs.{ProgramView}
 use Rattle.pim_isa.specs.Sound.{IsProgram}
 use Rattle.pim_isa.specs.Validity.{fault_of}
+use Rattle.pim_text.specs.InstrForms.{instr_of}
 use Rattle.pim_text.specs.LineLaws.{ReadLines, OneLine, ProgramLines}
 use Rattle.pim_text.specs.Parts as parts
 use Rattle.pim_text.specs.Parts.{Parts}
@@ -40,16 +41,16 @@ head_is target cells = regrouped (target_word target) (decimal cells)
 text_is : (d : ProgramView) → text_of d ≡ parts.text program_kind (program_parts d)
 text_is d = ap (λ (head : List ℕ). head ++ ports_text (codes "input ") d.inputs ++ ports_text (codes "output ") d.outputs ++ counted_text (codes "cycles ") (length d.instrs) ++ instrs_text d.instrs ++ codes "end\n") (head_is d.target d.cells)
 
--- what holds of each instruction
-all_lines : (P Q : Instr → Type 0) (xs : List Instr) → ((x : Instr) → P x → Q x) → AllByRecursion P xs → AllByRecursion Q xs
-all_lines P Q [] f h = tt
-all_lines P Q (x ∷ xs) f h = (f x h.0, all_lines P Q xs f h.1)
+-- what holds of each element
+pub all_weaker : {X : Type 0} (P Q : X → Type 0) (xs : List X) → ((x : X) → P x → Q x) → AllByRecursion P xs → AllByRecursion Q xs
+all_weaker P Q [] f h = tt
+all_weaker P Q (x ∷ xs) f h = (f x h.0, all_weaker P Q xs f h.1)
 
 parts_text : (read : ReadLines) (d : ProgramView) → HasText d → parts.HasText program_kind (program_parts d)
-parts_text read d h = record { target = tt; cells = h.cells; inputs = h.inputs; outputs = h.outputs; cycles = h.cycles; instrs = all_lines _ _ d.instrs (λ i line. read.instr i line) h.instrs }
+parts_text read d h = record { target = tt; cells = h.cells; inputs = h.inputs; outputs = h.outputs; cycles = h.cycles; instrs = all_weaker HasLine (λ i. instr_of (instr_text i) ≡ Some i) d.instrs (λ i line. read.instr i line) h.instrs }
 
 has_text : (one : OneLine) (d : ProgramView) → parts.HasText program_kind (program_parts d) → HasText d
-has_text one d h = record { cells = h.cells; inputs = h.inputs; outputs = h.outputs; cycles = h.cycles; instrs = all_lines _ _ d.instrs (λ i e. (one.instr (instr_text i) i e).1) h.instrs }
+has_text one d h = record { cells = h.cells; inputs = h.inputs; outputs = h.outputs; cycles = h.cycles; instrs = all_weaker (λ i. instr_of (instr_text i) ≡ Some i) HasLine d.instrs (λ i e. (one.instr (instr_text i) i e).1) h.instrs }
 
 -- what is read as a draft is what is read as its parts
 

@@ -6,12 +6,14 @@ use Rattle.std.proofs.lemmas.Bool.{le-ltb, ltb-false}
 use Rattle.pim_io.specs.Readings.{◌>>=◌, Gives}
 use Rattle.pim_isa.specs.Sound.{IsProgram}
 use Rattle.pim_isa.specs.declared.draft.TheConstants.{MAX_CELLS, MAX_INSTRS}
+use Rattle.pim_isa.specs.declared.target.Target.{Target}
 use Rattle.pim_text.specs.LineLaws.{ReadLines, OneLine, ProgramLines}
 use Rattle.pim_text.specs.Parts as parts
 use Rattle.pim_text.specs.Parts.{Parts}
 use Rattle.pim_text.specs.Reading.{TextLaws, parts_of, sized, sized_parts_of}
 use Rattle.pim_text.specs.declared.fault.TextFault.{TextFault}
 use Rattle.pim_text.specs.declared.fault.TextFault.TheVariants as texts
+use Rattle.pim_imply.specs.Lines.{instr_of}
 use Rattle.pim_imply.specs.Programs.{ImplyView, body_of}
 use Rattle.pim_imply.specs.Reading.{imply_kind, imply_parts, parts_imply, imply_fault, imply_draft, draft_of, imply_of, validated, with_fault}
 use Rattle.pim_imply.specs.Spelled.{HasLine, HasText}
@@ -46,10 +48,10 @@ all_lines P Q (x ∷ xs) f h = (f x h.0, all_lines P Q xs f h.1)
 parts_text : (read : ReadLines) (d : ImplyView) → HasText d → parts.HasText imply_kind (imply_parts d)
 parts_text read d h =
     let small = h.cells in
-    record { target = refl; cells = omega arith; inputs = h.inputs; outputs = h.outputs; cycles = h.cycles; instrs = all_lines _ _ d.instrs (λ i line. instr_of-text read i line) h.instrs }
+    record { target = refl; cells = omega arith; inputs = h.inputs; outputs = h.outputs; cycles = h.cycles; instrs = all_lines HasLine (λ i. instr_of (imply_text i) ≡ Some i) d.instrs (λ i line. instr_of-text read i line) h.instrs }
 
 has_text : (one : OneLine) (d : ImplyView) → d.cells ≤ MAX_CELLS → parts.HasText imply_kind (imply_parts d) → HasText d
-has_text one d small h = record { cells = small; inputs = h.inputs; outputs = h.outputs; cycles = h.cycles; instrs = all_lines _ _ d.instrs (λ i e. (instr_is one (imply_text i) i e).1) h.instrs }
+has_text one d small h = record { cells = small; inputs = h.inputs; outputs = h.outputs; cycles = h.cycles; instrs = all_lines (λ i. instr_of (imply_text i) ≡ Some i) HasLine d.instrs (λ i e. (instr_is one (imply_text i) i e).1) h.instrs }
 
 -- what is read as a draft is what is read as its parts, of at most as many cells as a program may have
 
@@ -59,7 +61,7 @@ size_cases false p d e h = (ltb-false _ _ e, ok_is (parts_imply p) d h)
 
 module _ (laws : TextLaws imply_kind) where
   told : (p : Parts ImplyInstr) → parts.HasText imply_kind p → p ≡ imply_parts (parts_imply p)
-  told p h = ap (λ (t : _). let q : Parts ImplyInstr = record p { target = t } in q) h.target
+  told p h = ap (λ (t : Target). let q : Parts ImplyInstr = record p { target = t } in q) h.target
 
   drafted : (r : Result (Parts ImplyInstr) TextFault) (d : ImplyView) → ((p : Parts ImplyInstr) → r ≡ Ok p → parts.HasText imply_kind p) → imply_draft (r >>= sized) ≡ Ok d → (d.cells ≤ MAX_CELLS) × (r ≡ Ok (imply_parts d))
   drafted (Ok p) d f e =

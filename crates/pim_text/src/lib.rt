@@ -1,5 +1,6 @@
 //! What the texts of programs share: fields, plain numbers, the lines of targets, numbers, ports and instructions, read and
-//! printed. How a word stands for a cell, and how a line is cut into words, are parameters of the reading of an instruction.
+//! printed, and the reader of a whole text into a draft of its kind. How a word stands for a cell, and how a line is cut into words,
+//! are parameters of the reading of an instruction.
 #![tactic(auto)]
 
 mod cells;
