@@ -1,5 +1,5 @@
 -- The laws of reading and printing: a program's text is read as it, and nothing else is.
-use Rattle.std.proofs.Common.{◌≡◌, ℕ, ◌^◌, ◌<◌, ◌≤◌, Bool, true, false, cond, ltb, List, [], ◌∷◌, ◌++◌, length, Option, Some, None, Result, Ok, Err, codes, refl, take, ap, sym, ◌∙◌, subst, append_assoc, ◌⊎◌, inl, inr, arith}
+use Rattle.std.proofs.Common.{◌≡◌, ℕ, ◌<◌, Bool, true, false, cond, ltb, List, [], ◌∷◌, ◌++◌, length, Option, Some, None, Result, Ok, Err, codes, refl, take, ap, sym, ◌∙◌, subst, append_assoc, ◌⊎◌, inl, inr, arith}
 use Rattle.std.specs.Prelude.{◌↔◌, IfOk}
 use Rattle.std.specs.Fmt.{decimal}
 use Rattle.std.specs.List.{AllByRecursion}
@@ -20,7 +20,7 @@ use Rattle.pim_text.specs.ProgramTexts.{program_kind, program_parts, parts_progr
 use Rattle.pim_text.specs.Reading as reading
 use Rattle.pim_text.specs.Reading.{TextLaws, parts_of, sized_parts_of}
 use Rattle.pim_text.specs.Spelled.{HasLine}
-use Rattle.pim_text.specs.Text.{instr_text, target_line, target_word, counted_text, ports_text}
+use Rattle.pim_text.specs.Text.{instr_text, target_word, counted_text, ports_text}
 use Rattle.pim_text.specs.declared.fault.TextFault.{TextFault}
 use Rattle.pim_text.specs.declared.fault.TextFault.TheVariants as texts
 use Rattle.pim_file.specs.declared.fault.FileFault.{FileFault}
