@@ -1,12 +1,11 @@
 -- A reading that keeps only drafts within the limit ends as one that keeps all of them, but for those that are too large.
-use Rattle.std.proofs.Common.{◌≡◌, ℕ, ◌-◌, Bool, true, false, cond, ltb, eqb, ◌||◌, List, [], ◌∷◌, ◌++◌, Option, Some, None, Result, Ok, Err, codes, refl, ap, sym, ◌∙◌}
+use Rattle.std.proofs.Common.{◌≡◌, ℕ, ◌-◌, Bool, true, false, cond, ltb, eqb, ◌||◌, List, [], ◌∷◌, Option, Some, None, Result, Ok, Err, codes, refl, ap, sym, ◌∙◌}
 use Rattle.std.specs.Option.{option_map, option_and_then, option_or, ok_or}
 use Rattle.std.specs.Str.{bytes_eq}
 use Rattle.pim_io.specs.Lines.{LineView, lines}
 use Rattle.pim_io.specs.Readings.{◌>>=◌}
 use Rattle.pim_isa.specs.declared.draft.TheConstants.{MAX_CELLS}
 use Rattle.pim_isa.specs.declared.port.Port.{Port}
-use Rattle.pim_isa.specs.declared.target.Target.{Target}
 use Rattle.pim_text.specs.declared.fault.TextFault.{TextFault}
 use Rattle.pim_text.specs.declared.fault.TextFault.TheVariants as faults
 use Rattle.pim_text.specs.declared.section.Section.{Section}

@@ -1,5 +1,5 @@
 -- What is read of a text that isn't too long has few parts: the text is longer than twice its parts.
-use Rattle.std.proofs.Common.{◌≡◌, ℕ, ◌+◌, ◌*◌, ◌<◌, ◌≤◌, Bool, true, false, cond, ltb, List, [], ◌∷◌, ◌++◌, length, Result, Ok, Err, codes, refl, sym, ◌∙◌, subst, arith}
+use Rattle.std.proofs.Common.{◌≡◌, ℕ, ◌+◌, ◌*◌, ◌≤◌, Bool, true, false, cond, ltb, List, [], ◌∷◌, ◌++◌, length, Result, Ok, Err, codes, sym, ◌∙◌, subst, arith}
 use Rattle.std.specs.Prelude.{IfOk}
 use Rattle.std.specs.Fmt.{decimal}
 use Rattle.std.proofs.lemmas.List.{length-append}
@@ -7,10 +7,9 @@ use Rattle.pim_io.specs.declared.limits.TheConstants.{MAX_PROGRAM}
 use Rattle.pim_io.specs.Readings.{◌>>=◌, Gives}
 use Rattle.pim_isa.specs.declared.draft.TheConstants.{MAX_CELLS}
 use Rattle.pim_isa.specs.declared.port.Port.{Port}
-use Rattle.pim_isa.specs.declared.target.Target.{Target}
 use Rattle.pim_text.specs.declared.fault.TextFault.{TextFault}
 use Rattle.pim_text.specs.declared.fault.TextFault.TheVariants as faults
-use Rattle.pim_text.specs.Parts.{Kind, IsKind, Parts, instrs_text, told_target, head_text, text as text_of, HasText, HasFewParts}
+use Rattle.pim_text.specs.Parts.{Kind, IsKind, Parts, instrs_text, head_text, text as text_of, HasText, HasFewParts}
 use Rattle.pim_text.specs.Reading.{parts_of, sized}
 use Rattle.pim_text.specs.Text.{counted_text, port_text, ports_text}
 use Rattle.pim_text.specs.inner.Kept.{parts_within_limit}

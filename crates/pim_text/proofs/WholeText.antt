@@ -1,6 +1,5 @@
 -- What is read as the parts of a program is their text.
-use Rattle.std.proofs.Common.{◌≡◌, ℕ, ◌+◌, ◌-◌, ◌^◌, ◌<◌, Bool, true, false, cond, eqb, inl, inr, List, [], ◌∷◌, ◌++◌, length, Option, Some, None, Result, Ok, Err, codes, refl, ap, sym, ◌∙◌, subst, append_assoc, add-zero, arith}
-use Rattle.std.specs.Fmt.{decimal}
+use Rattle.std.proofs.Common.{◌≡◌, ℕ, ◌+◌, ◌-◌, ◌^◌, ◌<◌, Bool, true, false, cond, eqb, inl, inr, List, [], ◌∷◌, ◌++◌, length, Option, Some, None, Ok, Err, codes, refl, ap, sym, ◌∙◌, subst, append_assoc, add-zero, arith}
 use Rattle.std.specs.List.{AllByRecursion}
 use Rattle.std.specs.Option.{MatchOption, option_map, ok_or}
 use Rattle.std.specs.Str.{bytes_eq}
@@ -9,7 +8,6 @@ use Rattle.std.proofs.lemmas.List.{append-nil, length_push}
 use Rattle.std.proofs.lemmas.Option.{cond_some}
 use Rattle.std.proofs.lemmas.Slice.Eq.{bytes_eq-Decides}
 use Rattle.pim_io.specs.Lines.{LineView, is_newline, last_line, lines_after, lines}
-use Rattle.pim_io.specs.Readings.{◌>>=◌}
 use Rattle.pim_isa.specs.declared.port.Port.{Port}
 use Rattle.pim_isa.specs.declared.target.Target.{Target}
 use Rattle.pim_text.specs.declared.fault.TextFault.{TextFault}
@@ -19,9 +17,9 @@ use Rattle.pim_text.specs.declared.section.Section.TheVariants as section
 use Rattle.pim_text.specs.LineForms.{target_of, counted_of, port_of}
 use Rattle.pim_text.specs.LineLaws.{OneLine}
 use Rattle.pim_text.specs.Parts.{Kind, IsKind, Parts, instrs_text, told_target, head_text, text as text_of, IsTold, HasText}
-use Rattle.pim_text.specs.Reading.{Reading, start, aimed, begun, with_input, with_output, with_instr, behind_first, after_first, after_target, after_cells, after_input, after_output, after_cycles, after_outputs, after_inputs, after_end, after_instrs, after_in, after, is_ended, line_read, read_from, any_size, parts_of}
+use Rattle.pim_text.specs.Reading.{Reading, start, aimed, begun, with_input, with_output, with_instr, behind_first, after_first, after_target, after_cells, after_input, after_output, after_cycles, after_outputs, after_inputs, after_end, after_in, after, is_ended, line_read, read_from, any_size, parts_of}
 use Rattle.pim_text.specs.Spelled.{HasPortLine}
-use Rattle.pim_text.specs.Text.{counted_text, port_text, ports_text, target_line}
+use Rattle.pim_text.specs.Text.{counted_text, port_text, ports_text}
 use Rattle.pim_text.proofs.OptionLemmas.{mapped, or_is, ok_is, bind_ok, judged_line}
 
 -- one more port, and one more instruction, at the end of a text
