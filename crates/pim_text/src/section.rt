@@ -1,14 +1,14 @@
-use pim_isa::Target;
+use pim_isa::Target as Machine;
 
-/// Which lines may come next in a program file.
+/// Which lines may come next in the text of a program.
 #[derive(Clone, Copy, Debug, PartialEq, Eq)]
-pub(crate) enum Section {
-    /// The form.
-    Form,
+pub enum Section {
+    /// The first line.
+    First,
     /// The target.
     Target,
     /// The number of cells, of a program for this target.
-    Cells(Target),
+    Cells(Machine),
     /// An input, an output, or the number of cycles.
     Inputs,
     /// An output, or the number of cycles.
