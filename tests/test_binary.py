@@ -25,8 +25,8 @@ def test_a_cut_binary_program_is_truncated(pim, folder):
 
 def test_each_byte_is_judged(pim, folder):
     """With any one byte replaced a file is refused for the fault that the rules give, or is a program that is written as it was read."""
-    changed = [MAGIC[:place] + bytes([value]) + MAGIC[place + 1:]
-               for place, own in enumerate(MAGIC) for value in range(256) if value != own]
+    changed = [program[:place] + bytes([value]) + program[place + 1:]
+               for program in (MAGIC, PLIM) for place, own in enumerate(program) for value in range(256) if value != own]
     with ThreadPoolExecutor() as threads:
         list(threads.map(lambda data: judged_as_told(pim, data), changed))
 

@@ -43,6 +43,28 @@ def done(answer, data):
     equal(f"the status on {data!r}", answer.status, 0)
 
 
+def called_on(pim, folder, number, data, command, *words, **how):
+    """What a command answers whose FILE has these bytes."""
+    path = folder / str(number)
+    path.write_bytes(data)
+    answer = pim(command, path, *words, **how)
+    path.unlink()
+    return answer
+
+
+def text_judged(pim, folder, command, kind, wrote):
+    """A program's text is refused as the other reader says, or the command is done, and `wrote` judges what it wrote."""
+    def judged(number, data):
+        answer = called_on(pim, folder, number, data, command)
+        try:
+            texts.Text(kind, data).judge()
+        except texts.Refused as fault:
+            return refusal(answer, fault, data)
+        done(answer, data)
+        wrote(answer.output, data)
+    return judged
+
+
 def netlist_judged(pim, folder, target):
     """A netlist is refused as the other reader says, or its program has the netlist's labels and outputs on all vectors."""
     def judged(number, data):
@@ -71,38 +93,19 @@ def test_changed_netlists(pim, folder):
 
 def test_changed_programs(pim, folder):
     """Programs as text, of each target, for `list`; what is no fault is listed and assembled to the same bytes."""
-    def judged(number, data):
-        path = folder / str(number)
-        path.write_bytes(data)
-        answer = pim("list", path)
-        path.unlink()
-        try:
-            if data.startswith(b"pim2\n"):
-                raise AssertionError("a change of a text is in the binary form")
-            texts.Text(b"pim", data).judge()
-        except texts.Refused as fault:
-            return refusal(answer, fault, data)
-        done(answer, data)
-        equal(f"what is assembled of the listing of {data!r}", pim("asm", stdin=answer.output).output, data)
+    def wrote(listing, data):
+        equal(f"what is assembled of the listing of {data!r}", pim("asm", stdin=listing).output, data)
 
     for data in MAGIC, PLIM:
-        all_changes(data, judged)
+        all_changes(data, text_judged(pim, folder, "list", b"pim", wrote))
 
 
 def test_changed_imply_programs(pim, folder):
     """IMPLY programs, for `implyrun` without a vector."""
-    def judged(number, data):
-        path = folder / str(number)
-        path.write_bytes(data)
-        answer = pim("implyrun", path)
-        path.unlink()
-        try:
-            texts.Text(b"imply", data).judge()
-        except texts.Refused as fault:
-            return refusal(answer, fault, data)
-        done(answer, data)
+    def wrote(output, data):
+        equal(f"what is written without a vector for {data!r}", output, b"")
 
-    all_changes(IMPLY, judged)
+    all_changes(IMPLY, text_judged(pim, folder, "implyrun", b"imply", wrote))
 
 
 def test_changed_assembly(pim, folder):
@@ -136,20 +139,26 @@ def test_changed_turns(pim, folder):
 
 
 def test_changed_parts(pim, folder):
-    """A file of two programs: each change is a fault of the first piece that is no program, or the turns decide."""
+    """A file of two programs: each change is a fault of the first piece that is no program, or the turns decide, by their cycles."""
+    turns = b"0\n1\n0\n1\n"
+
     def judged(number, data):
-        path = folder / str(number)
-        path.write_bytes(data)
-        answer = pim("share", path, "--cells", "1048576", stdin=b"0\n1\n0\n1\n")
-        path.unlink()
+        answer = called_on(pim, folder, number, data, "share", "--cells", "1048576", stdin=turns)
         try:
             for part, piece in enumerate(pieces(data)):
                 judge_part(part, piece)
+            texts.judge_turns(turns, [cycles_of(piece) for piece in pieces(data)])
         except texts.Refused as fault:
             return refusal(answer, fault, data)
-        equal(f"whether {data!r} is no fault of a part", answer.status in (0, 1, 6) and b"program" not in answer.notes, True)
+        done(answer, data)
+        equal(f"the cycles for {data!r}", cycles_of(answer.output), 4)
 
     all_changes(ONE * 2, judged)
+
+
+def cycles_of(text):
+    """How many cycles a program says that it has."""
+    return next(int(line.split(b" ")[1]) for line in text.split(b"\n") if line.startswith(b"cycles "))
 
 
 def pieces(data):

@@ -1,4 +1,4 @@
-"""The IMPLY machine: programs of netlists and by chance, against the machine of machine.py and the other targets, and texts cut short."""
+"""The IMPLY machine: programs of netlists and by chance, against the machine of machine.py and the other targets, and texts with one line changed."""
 import random
 import resource
 
@@ -77,14 +77,6 @@ def test_programs_by_chance(pim, folder):
         for bit, fill in enumerate(["zeros", "ones"]):
             results = [machine.executed(text, vector, [bit] * 12) for vector in vectors]
             gives(pim("implyrun", folder / "program.imply", "--fill", fill, stdin=lines(vectors)), lines(results))
-
-
-def test_a_cut_program_is_truncated(pim, folder):
-    """Every proper front of a program is told to be cut, wherever the cut is."""
-    path = folder / "cut.imply"
-    for length in range(len(AND)):
-        path.write_bytes(AND[:length])
-        stops(pim("implyrun", path, stdin=b"11\n"), 1, "bad input: imply truncated")
 
 
 def test_one_line_changed(pim, folder):

@@ -6,7 +6,7 @@ EXAMPLES = ROOT / "examples"
 
 
 def small_netlists():
-    """The netlists of examples/ that have at most 20 inputs, each with its number of inputs."""
+    """The netlists of examples/, none of which has more than 20 inputs: the name and the bytes of each."""
     for path in sorted(EXAMPLES.iterdir()):
         if path.suffix in {".aag", ".aig", ".blif"}:
             yield path.name, path.read_bytes()

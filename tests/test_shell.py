@@ -4,6 +4,10 @@ import subprocess
 
 from program import ROOT, equal
 
+# Words that each command takes, behind its name. The file is not there.
+TAKEN = {"asm": "", "bench": "1", "compile": "--target magic --cells 0", "convert": "--form 1", "imply": "--cells 0",
+         "share": "absent --cells 0", **dict.fromkeys(("debug", "explain", "implyrun", "list", "prove", "run"), "absent")}
+
 ASK = """
 source "$1"; shift
 COMP_WORDS=("$@"); COMP_CWORD=$(($# - 1))
@@ -40,12 +44,12 @@ def test_completion(pim, folder):
 
 
 def test_each_offered_command_is_one(pim, folder):
-    """Each command that is offered is known to the program: with a word that it can't have it is usage, and it is in the manual."""
+    """All commands are offered. Each is known to the program, so that words which it takes are no usage, and is in the manual."""
     page = (ROOT / "docs" / "pim.1").read_text()
-    for command in completed(folder, ""):
+    equal("the commands", completed(folder, ""), sorted(TAKEN))
+    for command, words in TAKEN.items():
         equal(f"whether the manual has {command}", f".B pim {command}" in page, True)
-    taken = pim("asm", stdin=b"target magic\ncells 0\n")
-    equal("the status of asm", taken.status, 0)
+        equal(f"whether {command} is usage", pim(command, *words.split(), cwd=folder).status == 2, False)
 
 
 def test_the_manual_page(pim, folder):

@@ -4,3 +4,4 @@ pub mod BatchLemmas
 mod Examples
 pub mod MajorityLemmas
 pub mod PassLemmas
+pub mod LineCounts

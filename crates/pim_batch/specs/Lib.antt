@@ -1,6 +1,5 @@
 pub mod Runners
 pub mod Tables
-pub mod Packing
 pub mod Batches
 pub mod ImplyTables
 pub mod ImplyBatches

@@ -2,3 +2,5 @@
 pub mod TileLines
 pub mod ImplyLines
 pub mod Majorities
+pub mod Packing
+pub mod Kept

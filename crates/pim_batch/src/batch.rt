@@ -10,7 +10,7 @@ use crate::{Executor, lines, rows};
 use pim_io::{NoMemory, Sink, SinkFault};
 use pim_isa::{Fill, Program};
 use pim_lanes::Bank;
-use pim_vectors::Tile;
+use pim_vectors::{Stage, Tile};
 use std::alloc::Global;
 use std::marker::Model;
 
@@ -18,7 +18,7 @@ use std::marker::Model;
 pub(crate) const CHUNK: usize = 65_536;
 
 /// The vectors that were packed and not executed yet, with all that executing them takes: a bank, the packed vectors, a
-/// tile of results with a stage for those of one word, and room for some of their lines.
+/// tile of results with a stage for 64 of them, and room for some of their lines.
 #[derive(Debug, Drop)]
 pub struct Batch<'a> {
     program: &'a Program,
@@ -26,7 +26,7 @@ pub struct Batch<'a> {
     bank: Bank,
     vectors: Packed,
     results: Tile,
-    stage: Tile,
+    stage: Stage,
     chunk: Vec<u8>,
 
     // How many rows are executed together.
@@ -34,7 +34,8 @@ pub struct Batch<'a> {
 }
 
 impl<'a> Model for Batch<'a> {
-    ghost use Rattle.pim_batch.specs.Batches.{BatchView, IsBatch};
+    ghost use Rattle.pim_batch.specs.Batches.{BatchView};
+    ghost use Rattle.pim_batch.specs.inner.Kept.{IsBatch};
 
     ghost Value = { BatchView };
 
@@ -63,7 +64,7 @@ impl<'a> Batch<'a> {
             bank: Bank::new(alloc, program.cells(), words)?,
             vectors: Packed::new(alloc, inputs, words)?,
             results: Tile::new(alloc, outputs, words)?,
-            stage: Tile::new(alloc, outputs, 1)?,
+            stage: Stage::new(alloc, outputs)?,
             chunk: vec![in alloc; 0; CHUNK.max(outputs as usize + 1)]?,
             most: 64 * words as u32,
         })

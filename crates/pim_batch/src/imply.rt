@@ -1,8 +1,9 @@
-ghost use Rattle.std.specs.Prelude.{◌≡◌, ◌+◌, ◌-◌, ◌*◌, ◌^◌, ◌<◌, ◌≤◌, ◌⊎◌, ◌++◌, ◌∷◌, ◌↔◌, [], length, IsTrue, OnOk, OnErr, IfOk};
+ghost use Rattle.std.specs.Prelude.{◌≡◌, ℕ, List, All, ◌+◌, ◌-◌, ◌*◌, ◌^◌, ◌<◌, ◌≤◌, ◌⊎◌, ◌++◌, ◌∷◌, ◌↔◌, [], length, IsTrue, OnOk, OnErr, IfOk};
 ghost use Rattle.pim_io.specs.Bits.{bits_of};
 ghost use Rattle.pim_io.specs.Outside.{Wrote};
+ghost use Rattle.pim_vectors.specs.Lines.{lines};
 ghost use Rattle.pim_vectors.specs.Tiles.{IsVector};
-ghost use Rattle.pim_batch.specs.ImplyBatches.{AreOfPasses, IsRoom};
+ghost use Rattle.pim_batch.specs.inner.Kept.{AreOfPasses, IsRoom};
 ghost use Rattle.pim_batch.specs.ImplyTables.{imply_rows};
 
 use crate::Executor;
@@ -14,7 +15,7 @@ use pim_imply::ImplyProgram;
 use pim_io::{MAX_INPUT, NoMemory, Sink, SinkFault};
 use pim_isa::Fill;
 use pim_lanes::Bank;
-use pim_vectors::Tile;
+use pim_vectors::{Stage, Tile};
 use std::alloc::Global;
 use std::marker::Model;
 
@@ -31,7 +32,8 @@ pub struct ImplyBatch<'a> {
 }
 
 impl<'a> Model for ImplyBatch<'a> {
-    ghost use Rattle.pim_batch.specs.ImplyBatches.{ImplyBatchView, IsImplyBatch};
+    ghost use Rattle.pim_batch.specs.ImplyBatches.{ImplyBatchView};
+    ghost use Rattle.pim_batch.specs.inner.Kept.{IsImplyBatch};
 
     ghost Value = { ImplyBatchView };
 
@@ -112,7 +114,7 @@ fn room_for(alloc: Global, program: &ImplyProgram) -> Result<Room, NoMemory>
         words,
         bank: Bank::new(alloc, body.cells(), words)?,
         results: Tile::new(alloc, outputs, words)?,
-        stage: Tile::new(alloc, outputs, 1)?,
+        stage: Stage::new(alloc, outputs)?,
         chunk: vec![in alloc; 0; CHUNK.max(outputs as usize + 1)]?,
     })
 }
@@ -124,6 +126,10 @@ fn rows_of(inputs: u32) -> u32
     ensures value { result ≡ imply_rows inputs }
     ensures some { 0 < result }
     ensures few { result ≤ 64 * LARGE_WORDS }
+
+    // Where they are fewer than 4,096, no text within the limit has as many lines of this length.
+    ensures never_full { (text : List ℕ) → length text ≤ MAX_INPUT → All (λ l. length l ≡ inputs) (lines text)
+        → (result ≡ 64 * LARGE_WORDS) ⊎ (length (lines text) < result) }
 {
     (64 * LARGE_WORDS as u32).min(MAX_INPUT / (inputs + 1) + 2)
 }

@@ -1,16 +1,17 @@
 ghost use Rattle.std.specs.Prelude.{◌≡◌, ℕ, ◌+◌, ◌*◌, ◌/◌, ◌^◌, ◌<◌, ◌≤◌, length};
 ghost use Rattle.pim_io.specs.Outside.{Wrote};
-ghost use Rattle.pim_vectors.specs.Tiles.{SameSizes, vector_of};
+ghost use Rattle.pim_vectors.specs.Stages.{staged};
+ghost use Rattle.pim_vectors.specs.Tiles.{vector_of};
 ghost use Rattle.pim_batch.specs.inner.TileLines.{IsStage, row_line, row_lines, row_lines_from};
 
 use pim_io::{Sink, SinkFault, tell_writes, write_all};
-use pim_vectors::Tile;
+use pim_vectors::{Stage, Tile};
 
 /// Writes the vectors in the first lanes of a tile, a line of characters for each, as many lines at once as the chunk has room
-/// for. A line takes `width` bytes with its newline. The rows come by way of a stage of one word.
+/// for. A line takes `width` bytes with its newline. The rows come by way of a stage.
 pub(crate) fn write_results<K: Sink>(
     results: &Tile,
-    stage: &mut Tile,
+    stage: &mut Stage,
     lanes: u32,
     width: usize,
     chunk: &mut [u8],
@@ -19,12 +20,11 @@ pub(crate) fn write_results<K: Sink>(
     requires lanes { lanes ≤ 64 * results.now.words }
     requires width { width ≡ results.now.columns + 1 }
     requires room { width ≤ length chunk.old }
-    requires single { stage.old.words ≡ 1 }
     requires columns { stage.old.columns ≡ results.now.columns }
     ensures wrote { Wrote result (K.taken output.old) (K.taken output.new) (K.faults output.old) (K.faults output.new)
         (row_lines results.now lanes) }
     ensures never_falls { K.faults output.old ≤ K.faults output.new }
-    ensures stage { SameSizes stage.old stage.new }
+    ensures stage { stage.new.columns ≡ stage.old.columns }
     ensures room { length chunk.new ≡ length chunk.old }
 {
     tell_writes();
@@ -52,7 +52,7 @@ fn count_at_once(left: u32, width: usize, chunk: &[u8]) -> u32
 /// Writes some lanes of a tile at once, a line of characters for each; the chunk is room for them.
 fn write_lanes<K: Sink>(
     results: &Tile,
-    stage: &mut Tile,
+    stage: &mut Stage,
     from: u32,
     count: u32,
     width: usize,
@@ -68,7 +68,7 @@ fn write_lanes<K: Sink>(
         (row_lines_from results.now from count) }
     ensures never_falls { K.faults output.old ≤ K.faults output.new }
     ensures stage { IsStage results.now stage.new (from + count) }
-    ensures sizes { SameSizes stage.old stage.new }
+    ensures columns { stage.new.columns ≡ stage.old.columns }
     ensures room { length chunk.new ≡ length chunk.old }
 {
     let lines = &mut chunk[..count as usize * width];
@@ -79,7 +79,7 @@ fn write_lanes<K: Sink>(
 /// Fills a list with lanes of a tile, a line of characters for each.
 fn put_lines(
     results: &Tile,
-    stage: &mut Tile,
+    stage: &mut Stage,
     from: u32,
     count: u32,
     width: usize,
@@ -93,7 +93,7 @@ fn put_lines(
     ensures value { lines.new ≡ row_lines_from results.now from count }
     ensures long { length lines.new ≡ length lines.old }
     ensures stage { IsStage results.now stage.new (from + count) }
-    ensures sizes { SameSizes stage.old stage.new }
+    ensures columns { stage.new.columns ≡ stage.old.columns }
 {
     let mut at = 0;
     for k in 0..count {
@@ -103,14 +103,14 @@ fn put_lines(
 }
 
 /// Fills a list with one lane of a tile as a line of characters, with a newline behind it.
-fn put_line(results: &Tile, stage: &mut Tile, index: u32, line: &mut [u8])
+fn put_line(results: &Tile, stage: &mut Stage, index: u32, line: &mut [u8])
     requires lane { index < 64 * results.now.words }
     requires long { length line.old ≡ results.now.columns + 1 }
     requires stage { IsStage results.now stage.old index }
     ensures value { line.new ≡ row_line results.now index }
     ensures long { length line.new ≡ length line.old }
     ensures stage { IsStage results.now stage.new (index + 1) }
-    ensures sizes { SameSizes stage.old stage.new }
+    ensures columns { stage.new.columns ≡ stage.old.columns }
 {
     load_stage(results, stage, index);
     let columns = line.len() - 1;
@@ -119,11 +119,11 @@ fn put_line(results: &Tile, stage: &mut Tile, index: u32, line: &mut [u8])
 }
 
 /// Makes a stage hold the rows that share a word with this one.
-fn load_stage(results: &Tile, stage: &mut Tile, index: u32)
+fn load_stage(results: &Tile, stage: &mut Stage, index: u32)
     requires lane { index < 64 * results.now.words }
     requires stage { IsStage results.now stage.old index }
-    ensures held { (r : ℕ) → r < 64 → vector_of stage.new r ≡ vector_of results.now (64 * (index / 64) + r) }
-    ensures sizes { SameSizes stage.old stage.new }
+    ensures held { (r : ℕ) → r < 64 → staged stage.new r ≡ vector_of results.now (64 * (index / 64) + r) }
+    ensures columns { stage.new.columns ≡ stage.old.columns }
 {
     if index % 64 != 0 {
         return;

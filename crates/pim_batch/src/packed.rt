@@ -4,21 +4,21 @@ ghost use Rattle.pim_io.specs.Bits.{bits_of};
 ghost use Rattle.pim_vectors.specs.Tiles.{IsVector, SameSizes, vector_of};
 
 use pim_io::NoMemory;
-use pim_vectors::{MAX_WORDS, Tile};
+use pim_vectors::{MAX_WORDS, Stage, Tile};
 use std::alloc::Global;
 use std::marker::Model;
 
-/// Rows that are packed one after another. Those that share a word of each column are packed into a stage of one word a column,
-/// and are moved into the tile together.
+/// Rows that are packed one after another. Those that share a word of each column are packed into a stage, and are moved into
+/// the tile together.
 #[derive(Debug, Drop)]
 pub(crate) struct Packed {
     tile: Tile,
-    stage: Tile,
+    stage: Stage,
     count: u32,
 }
 
 impl Model for Packed {
-    ghost use Rattle.pim_batch.specs.Packing.{IsPacked, PackedView, packed_rows};
+    ghost use Rattle.pim_batch.specs.inner.Packing.{IsPacked, PackedView, packed_rows};
 
     ghost Value = { PackedView };
 
@@ -37,7 +37,7 @@ impl Packed {
     {
         Ok(Packed {
             tile: Tile::new(alloc, columns, words)?,
-            stage: Tile::new(alloc, columns, 1)?,
+            stage: Stage::new(alloc, columns)?,
             count: 0,
         })
     }

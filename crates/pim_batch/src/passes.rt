@@ -3,7 +3,7 @@ ghost use Rattle.pim_io.specs.Outside.{Wrote};
 ghost use Rattle.pim_isa.specs.Results.{load};
 ghost use Rattle.pim_lanes.specs.Banks.{row_of, SameFrame};
 ghost use Rattle.pim_vectors.specs.Tiles.{vector_of};
-ghost use Rattle.pim_batch.specs.ImplyBatches.{AreOfPasses, IsRoom};
+ghost use Rattle.pim_batch.specs.inner.Kept.{AreOfPasses, IsRoom};
 ghost use Rattle.pim_batch.specs.inner.ImplyLines.{imply_lines};
 
 use crate::lines::write_results;
@@ -13,16 +13,16 @@ use pim_imply::ImplyProgram;
 use pim_io::{Sink, SinkFault, tell_writes};
 use pim_isa::{Fill, Program};
 use pim_lanes::Bank;
-use pim_vectors::Tile;
+use pim_vectors::{Stage, Tile};
 
-/// What a pass is executed in: a bank and a tile of results, each of so many words, a stage for results of one word, and room for
+/// What a pass is executed in: a bank and a tile of results, each of so many words, a stage for results, and room for
 /// some of their lines.
 #[derive(Debug, Drop)]
 pub struct Room {
     pub(crate) words: usize,
     pub(crate) bank: Bank,
     pub(crate) results: Tile,
-    pub(crate) stage: Tile,
+    pub(crate) stage: Stage,
     pub(crate) chunk: Vec<u8>,
 }
 

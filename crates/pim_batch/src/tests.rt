@@ -5,7 +5,7 @@ use pim_imply::{ImplyDraft, ImplyInstr, ImplyProgram};
 use pim_io::{MemSink, NoMemory};
 use pim_isa::{Fill, Program};
 use pim_samples::and_draft;
-use pim_vectors::{Tile, vector_fits};
+use pim_vectors::{Stage, Tile, vector_fits};
 use std::alloc::Global;
 use std::process::Abort;
 use std::test::Fail;
@@ -43,7 +43,7 @@ fn lines_that_have_no_room_in_the_chunk_are_written_next(rt: HostRuntime) -> Res
     let mut chunk = [0; 5];
     // a third call of the sink would fail
     let mut sink = MemSink::new(rt.alloc(), 6, 6, &[2])?;
-    let mut stage = Tile::new(rt.alloc(), 1, 1)?;
+    let mut stage = Stage::new(rt.alloc(), 1)?;
     lines::write_results(&results, &mut stage, 3, 2, &mut chunk, &mut sink)?;
     assert_eq!(rt; sink.bytes(), b"0\n1\n0\n".as_slice());
     Ok(())

@@ -1,7 +1,11 @@
-use crate::{DebugFault, Reply, Session};
+//! Commands by chance do what a plain model does.
+use crate::bits::Bits;
+use crate::tests::told;
+use crate::{DebugFault, Reply, Session, Stop};
 use pim_io::NoMemory;
 use pim_isa::{Fill, Program};
 use pim_samples::and_draft;
+use std::alloc::Global;
 use std::test::Fail;
 
 /// How many instructions the program of the AND has.
@@ -28,11 +32,11 @@ const LINES: [[u8; 8]; 8] = [
     *b"show    ",
 ];
 
-/// What a session of that program has to be: its position, and the position of each breakpoint that is set, by its number.
+/// What a session of that program has to be: its position, and its breakpoints in any order.
 #[derive(Drop)]
 struct Plain {
     at: u32,
-    stops: [Option<u32>; 64],
+    stops: Vec<Stop>,
 }
 
 impl Plain {
@@ -41,90 +45,70 @@ impl Plain {
         ROWS.get(self.at as usize)?.get(cell as usize).copied()
     }
 
-    /// Whether a breakpoint stands at a position.
-    fn stops_at(&self, at: u32) -> bool {
-        for stop in self.stops {
-            if stop == Some(at) {
-                return true;
-            }
-        }
-        false
-    }
-
     /// The next position at which `run` stops.
     fn next_stop(&self) -> u32 {
-        for at in 0..LAST {
-            if at > self.at && self.stops_at(at) {
-                return at;
+        let mut next = LAST;
+        for stop in &self.stops {
+            if stop.at > self.at {
+                next = next.min(stop.at);
             }
         }
-        LAST
+        next
     }
 
-    /// Goes to a position, if the program has it: whether the answer says so.
-    fn goes(&mut self, at: u32, answer: &Result<Reply, DebugFault>) -> bool {
+    /// Goes to a position, if the program has it.
+    fn go_to(&mut self, at: u32) -> Result<Reply, DebugFault> {
         if at > LAST {
-            return matches!(answer, Err(DebugFault::OutOfProgram(k)) if *k == u64::from(at));
+            return Err(DebugFault::OutOfProgram(u64::from(at)));
         }
         self.at = at;
-        matches!(answer, Ok(Reply::At(k)) if *k == at)
+        Ok(Reply::At(at))
     }
 
-    /// Sets a breakpoint, if the program has its position: whether the answer says so, with a number that was free.
-    fn sets(&mut self, at: u32, answer: &Result<Reply, DebugFault>) -> bool {
+    /// Sets a breakpoint of this number, if the program has its position.
+    fn set(&mut self, number: u64, at: u32) -> Result<Reply, DebugFault> {
         if at > LAST {
-            return matches!(answer, Err(DebugFault::OutOfProgram(k)) if *k == u64::from(at));
+            return Err(DebugFault::OutOfProgram(u64::from(at)));
         }
-        let Ok(Reply::Break { number, at: told }) = answer else {
-            return false;
-        };
-        let Some(stop) = self.stops.get_mut(*number as usize) else {
-            return false;
-        };
-        let was_free = stop.is_none();
-        *stop = Some(at);
-        was_free && *told == at
-    }
-
-    /// Takes a breakpoint away, if it is set: whether the answer says so.
-    fn deletes(&mut self, number: u32, answer: &Result<Reply, DebugFault>) -> bool {
-        let Some(stop) = self.stops.get_mut(number as usize) else {
-            return false;
-        };
-        if stop.is_none() {
-            return matches!(answer, Err(DebugFault::NoSuchBreak(n)) if *n == number);
-        }
-        *stop = None;
-        matches!(answer, Ok(Reply::Deleted(n)) if *n == number)
-    }
-
-    /// Whether the answer tells the bit of a cell, if the program has it.
-    fn tells(&self, cell: u32, answer: &Result<Reply, DebugFault>) -> bool {
-        match self.bit(cell) {
-            Some(bit) => matches!(answer, Ok(Reply::Cell(c, told)) if *c == cell && *told == bit),
-            None => matches!(answer, Err(DebugFault::NoSuchCell(c)) if *c == cell),
+        match self.stops.push(Stop { number, at }) {
+            Ok(()) => Ok(Reply::Break { number, at }),
+            Err(_) => Err(DebugFault::NoMemory),
         }
     }
 
-    /// Whether the answer tells the bit of the output cell.
-    fn shows(&self, answer: &Result<Reply, DebugFault>) -> bool {
-        let Ok(Reply::Show(bits)) = answer else {
-            return false;
-        };
-        bits.list().len() == 1 && bits.list().first().copied() == self.bit(4)
+    /// Takes a breakpoint away, if it is set.
+    fn delete(&mut self, number: u32) -> Result<Reply, DebugFault> {
+        let before = self.stops.len();
+        self.stops.retain(|stop| stop.number != u64::from(number));
+        if self.stops.len() == before {
+            return Err(DebugFault::NoSuchBreak(number));
+        }
+        Ok(Reply::Deleted(number))
     }
 
-    /// Obeys a line by its place in `LINES`: whether the answer is the right one.
-    fn obeys(&mut self, kind: u32, n: u32, answer: &Result<Reply, DebugFault>) -> bool {
+    /// The bit of the output cell.
+    fn show(&self, alloc: Global) -> Result<Reply, DebugFault> {
+        let mut bits = Bits::new(alloc);
+        if let Some(bit) = self.bit(4) {
+            bits.push(bit)?;
+        }
+        Ok(Reply::Show(bits))
+    }
+
+    /// Obeys a line by its place in `LINES`, where a breakpoint that is set gets this number.
+    fn obey(&mut self, alloc: Global, kind: u32, n: u32, number: u64) -> Result<Reply, DebugFault> {
         match kind {
-            0 => self.goes(self.at.saturating_add(n), answer),
-            1 => self.goes(self.at.saturating_sub(n), answer),
-            2 => self.goes(n, answer),
-            3 => self.sets(n, answer),
-            4 => self.deletes(n, answer),
-            5 => self.tells(n, answer),
-            6 => self.goes(self.next_stop(), answer),
-            _ => self.shows(answer),
+            0 => self.go_to(self.at.saturating_add(n)),
+            1 => self.go_to(self.at.saturating_sub(n)),
+            2 => self.go_to(n),
+            3 => self.set(number, n),
+            4 => self.delete(n),
+            5 => match self.bit(n) {
+                Some(bit) => Ok(Reply::Cell(n, bit)),
+                None => Err(DebugFault::NoSuchCell(n)),
+            },
+            6 => self.go_to(self.next_stop()),
+            _ => self.show(alloc),
         }
     }
 
@@ -135,17 +119,13 @@ impl Plain {
                 return Ok(false);
             }
         }
-        let mut left = self.stops;
-        for stop in session.breakpoints()? {
-            let Some(place) = left.get_mut(stop.number as usize) else {
-                return Ok(false);
-            };
-            if *place != Some(stop.at) {
+        let stops = session.breakpoints()?;
+        for stop in &stops {
+            if !self.stops.contains(stop) {
                 return Ok(false);
             }
-            *place = None;
         }
-        Ok(left == [None; 64] && session.position() == self.at)
+        Ok(stops.len() == self.stops.len() && session.position() == self.at)
     }
 }
 
@@ -160,11 +140,12 @@ fn line(kind: u32, n: u32) -> [u8; 8] {
 
 #[test]
 fn commands_by_chance_do_what_a_plain_model_does(rt: HostRuntime) -> Result<(), Fail> {
-    let program = Program::new(and_draft(rt.alloc())?)?;
-    let mut session = Session::new(rt.alloc(), &program, &[true, true], Fill::Zeros)?;
+    let alloc = rt.alloc();
+    let program = Program::new(and_draft(alloc)?)?;
+    let mut session = Session::new(alloc, &program, &[true, true], Fill::Zeros)?;
     let mut plain = Plain {
         at: 0,
-        stops: [None; 64],
+        stops: Vec::new(alloc),
     };
     let mut chance = 1u64;
     for _ in 0..300u32 {
@@ -174,7 +155,12 @@ fn commands_by_chance_do_what_a_plain_model_does(rt: HostRuntime) -> Result<(), 
         let kind = (chance >> 61) as u32;
         let n = ((chance >> 32) % 6) as u32;
         let answer = session.command(&line(kind, n));
-        assert!(rt; plain.obeys(kind, n, &answer));
+        let number = match answer {
+            Ok(Reply::Break { number, .. }) => number,
+            _ => 0,
+        };
+        let wanted = plain.obey(alloc, kind, n, number);
+        assert_eq!(rt; told(alloc, &answer)?, told(alloc, &wanted)?);
         assert!(rt; plain.is_like(&session)?);
     }
     Ok(())

@@ -1,105 +1,114 @@
-use crate::{DebugFault, Reply, Session};
+use crate::{DebugFault, Reply, Session, Stop};
 use pim_isa::{Fill, Program};
 use pim_samples::and_draft;
+use std::alloc::Global;
+use std::process::Abort;
 use std::test::Fail;
+
+/// An answer in words.
+pub(crate) fn told(alloc: Global, answer: &Result<Reply, DebugFault>) -> Result<String, Fail> {
+    Ok(format!(in alloc; "{answer:?}")?)
+}
+
+/// Lines, and what a session answers to each.
+fn obeys(
+    rt: &impl Abort,
+    alloc: Global,
+    session: &mut Session,
+    lines: &[(&'static str, &'static str)],
+) -> Result<(), Fail> {
+    for (line, wanted) in lines {
+        let answer = session.command(line.as_bytes());
+        assert_eq!(rt; told(alloc, &answer)?.as_str(), *wanted, "at {line}");
+    }
+    Ok(())
+}
 
 #[test]
 fn goes_forward_and_back(rt: HostRuntime) -> Result<(), Fail> {
-    let program = Program::new(and_draft(rt.alloc())?)?;
-    let mut session = Session::new(rt.alloc(), &program, &[true, true], Fill::Zeros)?;
-    assert!(rt; matches!(session.command(b"")?, Reply::Nothing));
-    assert!(rt;
-        matches!(
-            session.command(b"break 2")?,
-            Reply::Break { number: 0, at: 2 }
-        )
-    );
-    assert!(rt; matches!(session.command(b"run")?, Reply::At(2)));
-    assert!(rt; matches!(session.command(b"cell 2")?, Reply::Cell(2, false)));
-    assert!(rt; matches!(session.command(b" step\t2\r")?, Reply::At(4)));
-    let Reply::Show(bits) = session.command(b"show")? else {
-        return Err(Fail::from("no bits"));
-    };
-    assert_eq!(rt; bits.list(), [true].as_slice());
-    assert!(rt; matches!(session.command(b"back 3")?, Reply::At(1)));
+    let alloc = rt.alloc();
+    let program = Program::new(and_draft(alloc)?)?;
+    let mut session = Session::new(alloc, &program, &[true, true], Fill::Zeros)?;
+    obeys(
+        &rt,
+        alloc,
+        &mut session,
+        &[
+            ("", "Ok(Nothing)"),
+            ("break 2", "Ok(Break { number: 0, at: 2 })"),
+            ("run", "Ok(At(2))"),
+            ("cell 2", "Ok(Cell(2, false))"),
+            (" step\t2\r", "Ok(At(4))"),
+            ("show", "Ok(Show(Bits { bits: [true] }))"),
+            ("back 3", "Ok(At(1))"),
+        ],
+    )?;
     for cell in 0..5u32 {
         assert_eq!(rt; session.cell(cell), Some(true));
     }
-    assert!(rt; matches!(session.command(b"goto 0")?, Reply::At(0)));
-    for cell in 2..5u32 {
-        assert_eq!(rt; session.cell(cell), Some(false));
-    }
-    assert!(rt; matches!(session.command(b"delete 0")?, Reply::Deleted(0)));
-    assert!(rt; matches!(session.command(b"run")?, Reply::At(4)));
-    assert!(rt; matches!(session.command(b"quit")?, Reply::Quit));
-    Ok(())
+    obeys(
+        &rt,
+        alloc,
+        &mut session,
+        &[
+            ("goto 0", "Ok(At(0))"),
+            ("delete 0", "Ok(Deleted(0))"),
+            ("cell 4", "Ok(Cell(4, false))"),
+            ("run", "Ok(At(4))"),
+            ("quit", "Ok(Quit)"),
+        ],
+    )
 }
 
 #[test]
 fn two_breakpoints_at_one_position(rt: HostRuntime) -> Result<(), Fail> {
-    let program = Program::new(and_draft(rt.alloc())?)?;
-    let mut session = Session::new(rt.alloc(), &program, &[true, false], Fill::Ones)?;
-    assert!(rt;
-        matches!(
-            session.command(b"break 1")?,
-            Reply::Break { number: 0, at: 1 }
-        )
-    );
-    assert!(rt;
-        matches!(
-            session.command(b"break 1")?,
-            Reply::Break { number: 1, at: 1 }
-        )
-    );
-    let stops = session.breakpoints()?;
-    assert_eq!(rt; stops.len(), 2);
-    assert_eq!(rt; stops[0].number, 0);
-    assert_eq!(rt; stops[0].at, 1);
-    assert_eq!(rt; stops[1].number, 1);
-    assert_eq!(rt; stops[1].at, 1);
-    assert!(rt; matches!(session.command(b"delete 0")?, Reply::Deleted(0)));
-    assert!(rt; matches!(session.command(b"run")?, Reply::At(1)));
-    assert!(rt; matches!(session.command(b"run")?, Reply::At(4)));
-    Ok(())
+    let alloc = rt.alloc();
+    let program = Program::new(and_draft(alloc)?)?;
+    let mut session = Session::new(alloc, &program, &[true, false], Fill::Ones)?;
+    obeys(
+        &rt,
+        alloc,
+        &mut session,
+        &[
+            ("break 1", "Ok(Break { number: 0, at: 1 })"),
+            ("break 1", "Ok(Break { number: 1, at: 1 })"),
+        ],
+    )?;
+    let stops = [Stop { number: 0, at: 1 }, Stop { number: 1, at: 1 }];
+    assert_eq!(rt; session.breakpoints()?.as_slice(), stops.as_slice());
+    obeys(
+        &rt,
+        alloc,
+        &mut session,
+        &[
+            ("delete 0", "Ok(Deleted(0))"),
+            ("run", "Ok(At(1))"),
+            ("run", "Ok(At(4))"),
+        ],
+    )
 }
 
 #[test]
 fn a_refused_command_changes_nothing(rt: HostRuntime) -> Result<(), Fail> {
-    let program = Program::new(and_draft(rt.alloc())?)?;
-    let mut session = Session::new(rt.alloc(), &program, &[true, true], Fill::Zeros)?;
-    assert!(rt; matches!(session.command(b"step")?, Reply::At(1)));
-    assert_eq!(rt;
-        session.command(b"step 4").err(),
-        Some(DebugFault::OutOfProgram(5))
-    );
-    assert_eq!(rt;
-        session.command(b"goto 4294967295").err(),
-        Some(DebugFault::OutOfProgram(4_294_967_295))
-    );
-    assert_eq!(rt;
-        session.command(b"break 5").err(),
-        Some(DebugFault::OutOfProgram(5))
-    );
-    assert_eq!(rt;
-        session.command(b"delete 0").err(),
-        Some(DebugFault::NoSuchBreak(0))
-    );
-    assert_eq!(rt;
-        session.command(b"cell 5").err(),
-        Some(DebugFault::NoSuchCell(5))
-    );
-    assert_eq!(rt;
-        session.command(b"goto").err(),
-        Some(DebugFault::BadCommand)
-    );
-    assert_eq!(rt;
-        session.command(b"show 1").err(),
-        Some(DebugFault::BadCommand)
-    );
-    assert_eq!(rt;
-        session.command(b"cell 4294967296").err(),
-        Some(DebugFault::BadCommand)
-    );
+    let alloc = rt.alloc();
+    let program = Program::new(and_draft(alloc)?)?;
+    let mut session = Session::new(alloc, &program, &[true, true], Fill::Zeros)?;
+    obeys(
+        &rt,
+        alloc,
+        &mut session,
+        &[
+            ("step", "Ok(At(1))"),
+            ("step 4", "Err(OutOfProgram(5))"),
+            ("goto 4294967295", "Err(OutOfProgram(4294967295))"),
+            ("break 5", "Err(OutOfProgram(5))"),
+            ("delete 0", "Err(NoSuchBreak(0))"),
+            ("cell 5", "Err(NoSuchCell(5))"),
+            ("goto", "Err(BadCommand)"),
+            ("show 1", "Err(BadCommand)"),
+            ("cell 4294967296", "Err(BadCommand)"),
+        ],
+    )?;
     assert_eq!(rt; session.position(), 1);
     assert_eq!(rt; session.cell(5), None);
     Ok(())

@@ -10,6 +10,7 @@ use Rattle.pim_file.specs.declared.fault.FileFault.TheVariants as faults
 use Rattle.pim_file.specs.Items.{shown_at, number_at, length_at, many, counted}
 use Rattle.pim_file.specs.BinaryReading.{target_at, port_at, init_at, nor1_at, nor2_at, operand_number_at, rm3_at, instr_at, draft_at, draft2_of, parse2_of, parse_of}
 use Rattle.pim_file.specs.ProgramFile.{draft_of, parse1_of}
+use Rattle.pim_text.specs.Reading.{parts_of}
 use Rattle.pim_file.specs.Binary.{bin}
 
 -- the program of a two-input AND
@@ -92,5 +93,5 @@ operands = refl
 
 -- four of the five bytes are text, which has no line
 four_bytes : parse_of (codes "pim2") ≡ Err faults.Truncated
-unfolding parse_of parse1_of draft_of
+unfolding parse_of parse1_of draft_of parts_of
 four_bytes = refl

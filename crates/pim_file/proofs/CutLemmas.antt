@@ -18,6 +18,7 @@ use Rattle.pim_file.specs.declared.fault.FileFault.TheVariants as faults
 use Rattle.pim_file.specs.Items.{Cursor, further, wrong_before, allowed, byte_from, byte_at, shown_at, number_of_code, number_at, is_label_length, length_at, many, counted}
 use Rattle.pim_file.specs.BinaryReading.{target_of_byte, target_at, port_at, init_at, nor1_at, nor2_at, nor3_at, nor4_at, operand_of_number, operand_number_at, rm3_at, instr_behind, instr_at, draft_at, draft2_of, parse2_of, parse_of}
 use Rattle.pim_file.specs.ProgramFile.{draft_of, parse1_of}
+use Rattle.pim_text.specs.Reading.{parts_of}
 use Rattle.pim_file.specs.Binary.{bin, body_bin}
 use Rattle.pim_file.specs.BinarySpelled.{HasBinary}
 use Rattle.pim_file.proofs.CodeLemmas.{got_at}
@@ -261,7 +262,7 @@ front_of_body p k h lt =
     front_is_cut p read.0 (drop k body) (draft_at (record { place = 5; rest = take k body })) _ some whole (draft_stays (drop k body) (record { place = 5; rest = take k body }))
 
 pub parse_of-cut : (p : ProgramView) (k : ℕ) → IsProgram p → k < length (bin p) → parse_of (take k (bin p)) ≡ Err faults.Truncated
-unfolding parse_of parse1_of draft_of parse2_of draft2_of
+unfolding parse_of parse1_of draft_of parts_of parse2_of draft2_of
 parse_of-cut p zero h lt = refl
 parse_of-cut p (suc zero) h lt = refl
 parse_of-cut p (suc (suc zero)) h lt = refl

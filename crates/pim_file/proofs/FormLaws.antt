@@ -17,7 +17,9 @@ use Rattle.pim_isa.specs.Sound.{cells_of, IsValid, HasLabel, IsProgram}
 use Rattle.pim_isa.specs.Touches.{operand_cells, names}
 use Rattle.pim_isa.specs.Validity.{rises_above, is_rising, fault_of}
 use Rattle.pim_text.specs.Spelled.{HasPortLine}
-use Rattle.pim_text.specs.LineLaws.{ReadLines, OneLine, LackNewlines, ProgramLines}
+use Rattle.pim_text.specs.LineLaws.{ReadLines, OneLine, ProgramLines}
+use Rattle.pim_text.specs.ProgramTexts.{program_kind}
+use Rattle.pim_text.specs.Reading.{TextLaws}
 use Rattle.pim_file.specs.declared.fault.FileFault.{FileFault}
 use Rattle.pim_file.specs.declared.fault.FileFault.TheVariants as faults
 use Rattle.pim_file.specs.Text.{text as text_of}
@@ -29,13 +31,9 @@ use Rattle.pim_file.specs.inner.BinaryKept.{program2_within_limit}
 use Rattle.pim_file.proofs.ItemLemmas.{bind_ok}
 use Rattle.pim_file.proofs.BinaryLemmas.{draft2_is, draft2_of-bin}
 use Rattle.pim_file.proofs.KeptLemmas.{size_cases, parse2_of-kept}
-use Rattle.pim_file.proofs.Laws.{fault_cases, parse1_of-text, program_is}
+use Rattle.pim_file.proofs.Laws.{all_weaker, fault_cases, parse1_of-text, program_is}
 
 -- what holds of each element
-
-all_weaker : {X : Type 0} (P Q : X → Type 0) (xs : List X) → ((x : X) → P x → Q x) → AllByRecursion P xs → AllByRecursion Q xs
-all_weaker P Q [] f h = tt
-all_weaker P Q (x ∷ xs) f h = (f x h.0, all_weaker P Q xs f h.1)
 
 all_front : (P : ℕ → Type 0) (xs ys : List ℕ) → AllByRecursion P (xs ++ ys) → AllByRecursion P xs
 all_front P [] ys h = tt
@@ -127,23 +125,23 @@ pub parse_of-bin : (p : ProgramView) → IsProgram p → parse_of (bin p) ≡ Ok
 unfolding parse_of
 parse_of-bin p h = parse2_of-bin p h
 
-module _ (read : ReadLines) (lack : LackNewlines) (lines : ProgramLines) where
+module _ (read : ReadLines) (lines : ProgramLines) (laws : TextLaws program_kind) where
   pub parse_of-text : (p : ProgramView) → IsProgram p → parse_of (text_of p) ≡ Ok p
   unfolding parse_of
-  parse_of-text p h = parse1_of-text read lack lines p h
+  parse_of-text p h = parse1_of-text read lines laws p h
 
   pub spelling_is_read : (bytes : List ℕ) (p : ProgramView) → IsProgram p → ((bytes ≡ text_of p) ⊎ (bytes ≡ bin p)) → parse_of bytes ≡ Ok p
   spelling_is_read bytes p h (inl text) = ap parse_of text ∙ parse_of-text p h
   spelling_is_read bytes p h (inr form) = ap parse_of form ∙ parse_of-bin p h
 
-module _ (one : OneLine) where
+module _ (one : OneLine) (laws : TextLaws program_kind) where
   pub spelling_is : (bytes : List ℕ) (p : ProgramView) → parse_of bytes ≡ Ok p → (bytes ≡ text_of p) ⊎ (bytes ≡ bin p)
   unfolding parse_of
   spelling_is bytes p e = by_tag (is_binary bytes) refl e
     where
       by_tag : (t : Bool) → is_binary bytes ≡ t → cond t (parse2_of bytes) (parse1_of bytes) ≡ Ok p → (bytes ≡ text_of p) ⊎ (bytes ≡ bin p)
       by_tag true tagged e = inr (binary_is bytes p tagged e)
-      by_tag false tagged e = inl (program_is one bytes p e)
+      by_tag false tagged e = inl (program_is one laws bytes p e)
 
 -- what a call that reads one of them gives
 

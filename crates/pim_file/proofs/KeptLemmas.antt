@@ -11,11 +11,10 @@ use Rattle.pim_isa.specs.declared.draft.TheConstants.{MAX_CELLS}
 use Rattle.pim_isa.specs.Programs.{ProgramView}
 use Rattle.pim_file.specs.declared.fault.FileFault.{FileFault}
 use Rattle.pim_file.specs.declared.fault.FileFault.TheVariants as faults
-use Rattle.pim_file.specs.Reading.{begun, with_input, with_output, with_instr}
+use Rattle.pim_file.specs.inner.Kept.{begun, with_input, with_output, with_instr, within_limit, HasFewParts}
 use Rattle.pim_file.specs.ProgramFile.{sized, validated}
 use Rattle.pim_file.specs.Items.{Cursor, number_at, counted}
 use Rattle.pim_file.specs.BinaryReading.{target_at, port_at, instr_at, draft_at, closed_at, is_binary, draft2_of, parse2_of}
-use Rattle.pim_file.specs.inner.Kept.{within_limit, HasFewParts}
 use Rattle.pim_file.proofs.ItemLemmas.{bind_ok, ok_is}
 use Rattle.pim_file.proofs.BinaryLemmas.{draft2_is, small_form}
 use Rattle.pim_file.specs.inner.BinaryKept.{with_inputs, with_outputs, with_instrs, kept_with, kept_at, draft_within_limit, program2_within_limit}

@@ -9,6 +9,7 @@ use Rattle.pim_file.specs.declared.fault.FileFault.TheVariants as faults
 use Rattle.pim_text.specs.Fields.{plain_number}
 use Rattle.pim_text.specs.InstrForms.{not_of, instr_of}
 use Rattle.pim_file.specs.ProgramFile.{draft_of, parse1_of}
+use Rattle.pim_text.specs.Reading.{parts_of}
 use Rattle.pim_file.specs.Right.{right}
 
 -- a line of a file
@@ -28,39 +29,39 @@ not_program : parse1_of (head ++ line (codes "input 0 a") ++ line (codes "output
       outputs = record { cell = 1; label = codes "f" } ∷ [];
       instrs = Init (1 ∷ []) ∷ Nor 1 (ins.One 0) ∷ [];
     })
-unfolding parse1_of draft_of instr_of not_of plain_number number_of
+unfolding parse1_of draft_of parts_of instr_of not_of plain_number number_of
 not_program = refl
 
 -- a NOT that reads its target
 target_read : parse1_of (head ++ line (codes "cycles 1") ++ line (codes "not 1 1") ++ line (codes "end")) ≡ Err (faults.Invalid (invalid.TargetRead 0))
-unfolding parse1_of draft_of instr_of not_of plain_number number_of
+unfolding parse1_of draft_of parts_of instr_of not_of plain_number number_of
 target_read = refl
 
 wrong_line : parse1_of (line (codes "pim 1") ++ line (codes "target magic") ++ line (codes "cells 05")) ≡ Err (faults.Line 3)
-unfolding parse1_of draft_of plain_number number_of
+unfolding parse1_of draft_of parts_of plain_number number_of
 wrong_line = refl
 
 -- an input stands before the outputs
 late_input : parse1_of (head ++ line (codes "output 1 f") ++ line (codes "input 0 a")) ≡ Err (faults.Line 5)
-unfolding parse1_of draft_of plain_number number_of
+unfolding parse1_of draft_of parts_of plain_number number_of
 late_input = refl
 
 too_few_cycles : parse1_of (head ++ line (codes "cycles 1") ++ line (codes "end")) ≡ Err (faults.Line 5)
-unfolding parse1_of draft_of instr_of plain_number number_of
+unfolding parse1_of draft_of parts_of instr_of plain_number number_of
 too_few_cycles = refl
 
 -- a last piece without a newline is not judged before `end`
 cut_off : parse1_of (line (codes "pim 1") ++ codes "wrong") ≡ Err faults.Truncated
-unfolding parse1_of draft_of
+unfolding parse1_of draft_of parts_of
 cut_off = refl
 
 nothing : parse1_of [] ≡ Err faults.Truncated
-unfolding parse1_of draft_of
+unfolding parse1_of draft_of parts_of
 nothing = refl
 
 -- behind `end` each byte is wrong
 byte_behind_end : parse1_of (head ++ line (codes "cycles 0") ++ line (codes "end") ++ codes "x") ≡ Err (faults.Line 6)
-unfolding parse1_of draft_of plain_number number_of
+unfolding parse1_of draft_of parts_of plain_number number_of
 byte_behind_end = refl
 
 -- too many cells
@@ -68,12 +69,12 @@ abbrev large_head : List ℕ
 large_head = line (codes "pim 1") ++ line (codes "target plim") ++ line (codes "cells 1048577")
 
 too_large : parse1_of (large_head ++ line (codes "cycles 0") ++ line (codes "end")) ≡ Err faults.TooLarge
-unfolding parse1_of draft_of plain_number number_of
+unfolding parse1_of draft_of parts_of plain_number number_of
 too_large = refl
 
 -- a wrong line comes before too many cells
 line_before_size : parse1_of (large_head ++ line (codes "wrong")) ≡ Err (faults.Line 4)
-unfolding parse1_of draft_of plain_number number_of
+unfolding parse1_of draft_of parts_of plain_number number_of
 line_before_size = refl
 
 -- behind the number of cycles as many lines are instructions, and the next one is `end`

@@ -19,18 +19,46 @@ use Rattle.pim_isa.specs.Validity.{fault_of}
 use Rattle.pim_isa.specs.Programs.{ProgramView}
 use Rattle.pim_file.specs.declared.fault.FileFault.{FileFault}
 use Rattle.pim_file.specs.declared.fault.FileFault.TheVariants as faults
-use Rattle.pim_file.specs.Sections.{Section}
-use Rattle.pim_file.specs.Sections as section
+use Rattle.pim_text.specs.declared.fault.TextFault.{TextFault}
+use Rattle.pim_text.specs.declared.fault.TextFault.TheVariants as texts
+use Rattle.pim_text.specs.declared.section.Section.{Section}
+use Rattle.pim_text.specs.declared.section.Section.TheVariants as section
+use Rattle.pim_text.specs.Parts.{Parts}
+use Rattle.pim_text.specs.ProgramTexts.{program_kind}
 use Rattle.pim_text.specs.LineForms.{target_of, counted_of, port_of}
 use Rattle.pim_text.specs.InstrForms.{instr_of}
 use Rattle.pim_io.specs.Readings.{◌>>=◌}
 use Rattle.pim_text.specs.Text.{target_word, nor_text, instr_text, port_line}
 use Rattle.pim_text.specs.LineLaws.{OneLine}
-use Rattle.pim_file.specs.Reading.{Reading, start, begun, with_input, with_output, with_instr, after_input, after_output, after_cycles, after_outputs, after_inputs, after_end, after_instrs, after_in, after, is_ended}
-use Rattle.pim_file.specs.ProgramFile.{read_from, any_size, draft_of, with_fault, validated, sized, parse1_of}
+use Rattle.pim_text.specs.Reading.{Reading, start, begun, with_input, with_output, with_instr, after_input, after_output, after_cycles, after_outputs, after_inputs, after_end, after_instrs, after_in, after, is_ended, read_from, any_size, parts_of}
+use Rattle.pim_file.specs.ProgramFile.{file_draft, draft_of, with_fault, validated, sized, parse1_of}
 use Rattle.pim_file.specs.Right.{is_form, is_cells, is_input, is_output, is_cycles, is_instr, is_end, cycles_and_more, cycles_before, right_in_body, right, is_complete, first_wrong, is_cut_off, wrong_line, is_truncated}
 use Rattle.pim_file.proofs.OptionLemmas.{or_is, mapped}
-use Rattle.pim_file.proofs.OneText.{nothing_follows}
+
+-- the wrong line that the reading of a text ends with
+abbrev text_wrong : Result (Parts Instr) TextFault → Option ℕ
+text_wrong (Ok parts) = None
+text_wrong (Err (texts.Line n)) = Some n
+text_wrong (Err texts.TooLarge) = None
+text_wrong (Err texts.Truncated) = None
+text_wrong (Err texts.NoMemory) = None
+
+-- the reading of a text ends too early
+abbrev text_cut : Result (Parts Instr) TextFault → Bool
+text_cut (Ok parts) = false
+text_cut (Err (texts.Line n)) = false
+text_cut (Err texts.TooLarge) = false
+text_cut (Err texts.Truncated) = true
+text_cut (Err texts.NoMemory) = false
+
+nothing_follows : (s : Section) (draft : Option (Parts Instr)) (line : List ℕ) → is_ended s ≡ true → after_in program_kind any_size s draft line ≡ None
+nothing_follows section.First draft line e = absurd cc
+nothing_follows section.Target draft line e = absurd cc
+nothing_follows (section.Cells target) draft line e = absurd cc
+nothing_follows section.Inputs draft line e = absurd cc
+nothing_follows section.Outputs draft line e = absurd cc
+nothing_follows (section.Instrs left) draft line e = absurd cc
+nothing_follows section.Ended draft line e = refl
 
 -- the last of the lines
 abbrev HasLast : List (List ℕ) → (List ℕ → Type 0) → Type 0
@@ -43,7 +71,7 @@ Reads {A} o = (x : A) × (o ≡ Some x)
 
 -- what the lines so far are, where a reading stands behind them
 abbrev Behind : Section → List (List ℕ) → Type 0
-Behind section.Form before = before ≡ []
+Behind section.First before = before ≡ []
 Behind section.Target before = HasLast before (λ l. l ≡ codes "pim 1")
 Behind (section.Cells target) before = HasLast before (λ l. l ≡ codes "target " ++ target_word target)
 Behind section.Inputs before = HasLast before (λ l. Reads (counted_of (codes "cells ") l) ⊎ Reads (port_of (codes "input ") l))
@@ -139,21 +167,21 @@ instr_no_end (Rm3 p q z) = refl
 
 -- what the definition of right lines says, by how far the file is read
 
-right_outputs : (o : Option ProgramView) (line : List ℕ) → is_some (after_outputs o line) ≡ (is_output line || is_cycles line)
+right_outputs : (o : Option (Parts Instr)) (line : List ℕ) → is_some (after_outputs o line) ≡ (is_output line || is_cycles line)
 right_outputs o line =
-    let output : is_some (after_output o line) ≡ is_output line = some-map (λ (p : Port). let r : Reading = record { section = section.Outputs; draft = with_output o p } in r) (port_of (codes "output ") line) in
-    let cycles : is_some (after_cycles o line) ≡ is_cycles line = some-map (λ (n : ℕ). let r : Reading = record { section = section.Instrs n; draft = o } in r) (counted_of (codes "cycles ") line) in
+    let output : is_some (after_output o line) ≡ is_output line = some-map (λ (p : Port). let r : Reading Instr = record { section = section.Outputs; draft = option_map (with_output p) o } in r) (port_of (codes "output ") line) in
+    let cycles : is_some (after_cycles o line) ≡ is_cycles line = some-map (λ (n : ℕ). let r : Reading Instr = record { section = section.Instrs n; draft = o } in r) (counted_of (codes "cycles ") line) in
     some-or (after_output o line) (after_cycles o line) ∙ rw (output, cycles) refl
 
-right_inputs : (o : Option ProgramView) (line : List ℕ) → is_some (after_inputs o line) ≡ (is_input line || (is_output line || is_cycles line))
+right_inputs : (o : Option (Parts Instr)) (line : List ℕ) → is_some (after_inputs o line) ≡ (is_input line || (is_output line || is_cycles line))
 right_inputs o line =
-    let input : is_some (after_input o line) ≡ is_input line = some-map (λ (p : Port). let r : Reading = record { section = section.Inputs; draft = with_input o p } in r) (port_of (codes "input ") line) in
+    let input : is_some (after_input o line) ≡ is_input line = some-map (λ (p : Port). let r : Reading Instr = record { section = section.Inputs; draft = option_map (with_input p) o } in r) (port_of (codes "input ") line) in
     some-or (after_input o line) (after_outputs o line) ∙ rw (input, right_outputs o line) refl
 
-right_body : (left k m : ℕ) (o : Option ProgramView) (line : List ℕ) → m + left ≡ k → is_some (after_instrs left o line) ≡ right_in_body (Some (k, m)) line
+right_body : (left k m : ℕ) (o : Option (Parts Instr)) (line : List ℕ) → m + left ≡ k → is_some (after_instrs program_kind left o line) ≡ right_in_body (Some (k, m)) line
 right_body left k m o line e = by_left (eqb left 0) refl
   where
-    by_left : (t : Bool) → eqb left 0 ≡ t → is_some (cond t (after_end o line) (option_map (λ i. record { section = section.Instrs (left - 1); draft = with_instr o i }) (instr_of line))) ≡ cond (ltb m k) (is_instr line) (eqb m k && is_end line)
+    by_left : (t : Bool) → eqb left 0 ≡ t → is_some (cond t (after_end o line) (option_map (λ i. record { section = section.Instrs (left - 1); draft = option_map (with_instr i) o }) (instr_of line))) ≡ cond (ltb m k) (is_instr line) (eqb m k && is_end line)
     by_left true z =
         let none : left ≡ 0 = eqb-true left 0 z in
         let over : ltb m k ≡ false = le-ltb m k (omega arith) in
@@ -162,7 +190,7 @@ right_body left k m o line e = by_left (eqb left 0) refl
     by_left false z =
         let some : left ≡ 0 → ⊥ = eqb-false left 0 z in
         let more : ltb m k ≡ true = lt-ltb m k (omega arith) in
-        some-map (λ (i : Instr). let r : Reading = record { section = section.Instrs (left - 1); draft = with_instr o i } in r) (instr_of line) ∙ rw more refl
+        some-map (λ (i : Instr). let r : Reading Instr = record { section = section.Instrs (left - 1); draft = option_map (with_instr i) o } in r) (instr_of line) ∙ rw more refl
 
 over_body : (k : ℕ) (line : List ℕ) → right_in_body (Some (k, k + 1)) line ≡ false
 over_body k line =
@@ -175,14 +203,14 @@ end_is_body : (others : List (List ℕ)) (line : List ℕ) → right (codes "end
 end_is_body others line = refl
 
 module _ (laws : OneLine) where
-  right_is : (s : Section) (before : List (List ℕ)) (o : Option ProgramView) (line : List ℕ) → Behind s before → is_some (after_in any_size s o line) ≡ right before line
-  right_is section.Form before o line h = some-cond (is_form line) (record { section = section.Target; draft = o }) ∙ ap (λ (b : List (List ℕ)). right b line) (sym h)
+  right_is : (s : Section) (before : List (List ℕ)) (o : Option (Parts Instr)) (line : List ℕ) → Behind s before → is_some (after_in program_kind any_size s o line) ≡ right before line
+  right_is section.First before o line h = some-cond (is_form line) (record { section = section.Target; draft = o }) ∙ ap (λ (b : List (List ℕ)). right b line) (sym h)
   right_is section.Target [] o line h = absurd h
   right_is section.Target (last ∷ others) o line h =
-      some-map (λ (t : Target). let r : Reading = record { section = section.Cells t; draft = o } in r) (target_of line) ∙ ap (λ (l : List ℕ). right (l ∷ others) line) (sym h)
+      some-map (λ (t : Target). let r : Reading Instr = record { section = section.Cells t; draft = o } in r) (target_of line) ∙ ap (λ (l : List ℕ). right (l ∷ others) line) (sym h)
   right_is (section.Cells target) [] o line h = absurd h
   right_is (section.Cells target) (last ∷ others) o line h =
-      some-map (λ (n : ℕ). let r : Reading = record { section = section.Inputs; draft = any_size (begun target n) } in r) (counted_of (codes "cells ") line) ∙ sym (behind_target target others line) ∙ ap (λ (l : List ℕ). right (l ∷ others) line) (sym h)
+      some-map (λ (n : ℕ). let r : Reading Instr = record { section = section.Inputs; draft = any_size (begun target n) } in r) (counted_of (codes "cells ") line) ∙ sym (behind_target target others line) ∙ ap (λ (l : List ℕ). right (l ∷ others) line) (sym h)
   right_is section.Inputs [] o line h = absurd h
   right_is section.Inputs (last ∷ others) o line (inl cells) = right_inputs o line ∙ sym (behind_cells laws last line others cells)
   right_is section.Inputs (last ∷ others) o line (inr input) = right_inputs o line ∙ sym (behind_input laws last line others input)
@@ -197,33 +225,33 @@ module _ (laws : OneLine) where
 
 -- where a reading stands behind one more line
 
-abbrev Follows : Reading → List ℕ → List (List ℕ) → Type 0
+abbrev Follows : Reading Instr → List ℕ → List (List ℕ) → Type 0
 Follows next line before = Behind next.section (line ∷ before)
 
-output_follows : (o : Option ProgramView) (before : List (List ℕ)) (line : List ℕ) (next : Reading) → after_output o line ≡ Some next → Follows next line before
+output_follows : (o : Option (Parts Instr)) (before : List (List ℕ)) (line : List ℕ) (next : Reading Instr) → after_output o line ≡ Some next → Follows next line before
 output_follows o before line next e =
-    let m = mapped (λ (p : Port). let r : Reading = record { section = section.Outputs; draft = with_output o p } in r) (port_of (codes "output ") line) next e in
-    subst (λ (n : Reading). Follows n line before) m.2 (m.0, m.1)
+    let m = mapped (λ (p : Port). let r : Reading Instr = record { section = section.Outputs; draft = option_map (with_output p) o } in r) (port_of (codes "output ") line) next e in
+    subst (λ (n : Reading Instr). Follows n line before) m.2 (m.0, m.1)
 
-cycles_follow : (o : Option ProgramView) (before : List (List ℕ)) (line : List ℕ) (next : Reading) → after_cycles o line ≡ Some next → Follows next line before
+cycles_follow : (o : Option (Parts Instr)) (before : List (List ℕ)) (line : List ℕ) (next : Reading Instr) → after_cycles o line ≡ Some next → Follows next line before
 cycles_follow o before line next e =
-    let m = mapped (λ (n : ℕ). let r : Reading = record { section = section.Instrs n; draft = o } in r) (counted_of (codes "cycles ") line) next e in
+    let m = mapped (λ (n : ℕ). let r : Reading Instr = record { section = section.Instrs n; draft = o } in r) (counted_of (codes "cycles ") line) next e in
     let counted : cycles_before (line ∷ before) ≡ Some (m.0, 0) = ap (λ (c : Option ℕ). cycles_and_more c (cycles_before before)) m.1 in
-    subst (λ (n : Reading). Follows n line before) m.2 (m.0, 0, counted, omega arith, inl (m.0, m.1))
+    subst (λ (n : Reading Instr). Follows n line before) m.2 (m.0, 0, counted, omega arith, inl (m.0, m.1))
 
-outputs_follow : (o : Option ProgramView) (before : List (List ℕ)) (line : List ℕ) (next : Reading) → after_outputs o line ≡ Some next → Follows next line before
+outputs_follow : (o : Option (Parts Instr)) (before : List (List ℕ)) (line : List ℕ) (next : Reading Instr) → after_outputs o line ≡ Some next → Follows next line before
 outputs_follow o before line next e =
     elim (or_is (after_output o line) (after_cycles o line) next e) [
       | inl output ↦ output_follows o before line next output
       | inr cycles ↦ cycles_follow o before line next cycles
     ]
 
-input_follows : (o : Option ProgramView) (before : List (List ℕ)) (line : List ℕ) (next : Reading) → after_input o line ≡ Some next → Follows next line before
+input_follows : (o : Option (Parts Instr)) (before : List (List ℕ)) (line : List ℕ) (next : Reading Instr) → after_input o line ≡ Some next → Follows next line before
 input_follows o before line next e =
-    let m = mapped (λ (p : Port). let r : Reading = record { section = section.Inputs; draft = with_input o p } in r) (port_of (codes "input ") line) next e in
-    subst (λ (n : Reading). Follows n line before) m.2 (inr (m.0, m.1))
+    let m = mapped (λ (p : Port). let r : Reading Instr = record { section = section.Inputs; draft = option_map (with_input p) o } in r) (port_of (codes "input ") line) next e in
+    subst (λ (n : Reading Instr). Follows n line before) m.2 (inr (m.0, m.1))
 
-inputs_follow : (o : Option ProgramView) (before : List (List ℕ)) (line : List ℕ) (next : Reading) → after_inputs o line ≡ Some next → Follows next line before
+inputs_follow : (o : Option (Parts Instr)) (before : List (List ℕ)) (line : List ℕ) (next : Reading Instr) → after_inputs o line ≡ Some next → Follows next line before
 inputs_follow o before line next e =
     elim (or_is (after_input o line) (after_outputs o line) next e) [
       | inl input ↦ input_follows o before line next input
@@ -231,37 +259,37 @@ inputs_follow o before line next e =
     ]
 
 module _ (laws : OneLine) where
-  body_follows : (left k m : ℕ) (o : Option ProgramView) (before : List (List ℕ)) (line : List ℕ) (next : Reading) → cycles_before before ≡ Some (k, m) → m + left ≡ k → after_instrs left o line ≡ Some next → Follows next line before
+  body_follows : (left k m : ℕ) (o : Option (Parts Instr)) (before : List (List ℕ)) (line : List ℕ) (next : Reading Instr) → cycles_before before ≡ Some (k, m) → m + left ≡ k → after_instrs program_kind left o line ≡ Some next → Follows next line before
   body_follows left k m o before line next c sum e = by_left (eqb left 0) refl e
     where
-      by_left : (t : Bool) → eqb left 0 ≡ t → cond t (after_end o line) (option_map (λ i. record { section = section.Instrs (left - 1); draft = with_instr o i }) (instr_of line)) ≡ Some next → Follows next line before
+      by_left : (t : Bool) → eqb left 0 ≡ t → cond t (after_end o line) (option_map (λ i. record { section = section.Instrs (left - 1); draft = option_map (with_instr i) o }) (instr_of line)) ≡ Some next → Follows next line before
       by_left true z e =
           let none : left ≡ 0 = eqb-true left 0 z in
-          let made : Reading = record { section = section.Ended; draft = o } in
+          let made : Reading Instr = record { section = section.Ended; draft = o } in
           let tests = cond_some (is_end line) made next e in
           let line_is : line ≡ codes "end" = (bytes_eq-Decides line (codes "end")).0 tests.0 in
           let all : m ≡ k = omega arith in
           let counted : cycles_before (line ∷ before) ≡ Some (k, k + 1) = ap (λ (l : List ℕ). cycles_before (l ∷ before)) line_is ∙ ap (λ (x : Option (ℕ × ℕ)). option_map (λ c. (c.0, c.1 + 1)) x) c ∙ ap (λ (n : ℕ). let x : Option (ℕ × ℕ) = Some (k, n + 1) in x) all in
-          subst (λ (n : Reading). Follows n line before) tests.1 (k, counted, line_is)
+          subst (λ (n : Reading Instr). Follows n line before) tests.1 (k, counted, line_is)
       by_left false z e =
           let some : left ≡ 0 → ⊥ = eqb-false left 0 z in
-          let mp = mapped (λ (i : Instr). let r : Reading = record { section = section.Instrs (left - 1); draft = with_instr o i } in r) (instr_of line) next e in
+          let mp = mapped (λ (i : Instr). let r : Reading Instr = record { section = section.Instrs (left - 1); draft = option_map (with_instr i) o } in r) (instr_of line) next e in
           let spelled = laws.instr line mp.0 mp.1 in
           let no_cycles : counted_of (codes "cycles ") line ≡ None = ap (λ (l : List ℕ). counted_of (codes "cycles ") l) spelled.0 ∙ instr_no_cycles mp.0 in
           let counted : cycles_before (line ∷ before) ≡ Some (k, m + 1) = ap (λ (x : Option ℕ). cycles_and_more x (cycles_before before)) no_cycles ∙ ap (λ (x : Option (ℕ × ℕ)). option_map (λ c. (c.0, c.1 + 1)) x) c in
-          subst (λ (n : Reading). Follows n line before) mp.2 (k, m + 1, counted, omega arith, inr (mp.0, mp.1))
+          subst (λ (n : Reading Instr). Follows n line before) mp.2 (k, m + 1, counted, omega arith, inr (mp.0, mp.1))
 
-  line_follows : (s : Section) (before : List (List ℕ)) (o : Option ProgramView) (line : List ℕ) (next : Reading) → Behind s before → after_in any_size s o line ≡ Some next → Follows next line before
-  line_follows section.Form before o line next h e =
-      let made : Reading = record { section = section.Target; draft = o } in
+  line_follows : (s : Section) (before : List (List ℕ)) (o : Option (Parts Instr)) (line : List ℕ) (next : Reading Instr) → Behind s before → after_in program_kind any_size s o line ≡ Some next → Follows next line before
+  line_follows section.First before o line next h e =
+      let made : Reading Instr = record { section = section.Target; draft = o } in
       let tests = cond_some (is_form line) made next e in
-      subst (λ (n : Reading). Follows n line before) tests.1 ((bytes_eq-Decides line (codes "pim 1")).0 tests.0)
+      subst (λ (n : Reading Instr). Follows n line before) tests.1 ((bytes_eq-Decides line (codes "pim 1")).0 tests.0)
   line_follows section.Target before o line next h e =
-      let m = mapped (λ (t : Target). let r : Reading = record { section = section.Cells t; draft = o } in r) (target_of line) next e in
-      subst (λ (n : Reading). Follows n line before) m.2 (laws.target line m.0 m.1)
+      let m = mapped (λ (t : Target). let r : Reading Instr = record { section = section.Cells t; draft = o } in r) (target_of line) next e in
+      subst (λ (n : Reading Instr). Follows n line before) m.2 (laws.target line m.0 m.1)
   line_follows (section.Cells target) before o line next h e =
-      let m = mapped (λ (n : ℕ). let r : Reading = record { section = section.Inputs; draft = any_size (begun target n) } in r) (counted_of (codes "cells ") line) next e in
-      subst (λ (n : Reading). Follows n line before) m.2 (inl (m.0, m.1))
+      let m = mapped (λ (n : ℕ). let r : Reading Instr = record { section = section.Inputs; draft = any_size (begun target n) } in r) (counted_of (codes "cells ") line) next e in
+      subst (λ (n : Reading Instr). Follows n line before) m.2 (inl (m.0, m.1))
   line_follows section.Inputs before o line next h e = inputs_follow o before line next e
   line_follows section.Outputs before o line next h e = outputs_follow o before line next e
   line_follows (section.Instrs left) before o line next h e = body_follows left h.0 h.1 o before line next h.2 h.3 e
@@ -279,7 +307,7 @@ target_no_end Plim = refl
 
 module _ (laws : OneLine) where
   ended_is : (s : Section) (before : List (List ℕ)) → Behind s before → is_ended s ≡ is_complete before
-  ended_is section.Form before h = ap is_complete (sym h)
+  ended_is section.First before h = ap is_complete (sym h)
   ended_is section.Target before h = sym (last_is (λ l. l ≡ codes "pim 1") before h (λ last e. ap is_end e))
   ended_is (section.Cells target) before h = sym (last_is (λ l. l ≡ codes "target " ++ target_word target) before h (λ last e. ap is_end e ∙ target_no_end target))
   ended_is section.Inputs before h = sym (last_is (λ l. Reads (counted_of (codes "cells ") l) ⊎ Reads (port_of (codes "input ") l)) before h ports)
@@ -298,27 +326,27 @@ module _ (laws : OneLine) where
 
 -- one line of a reading, and the lines behind it
 
-done_line : (b : Bool) (o : Option ProgramView) → wrong_line (cond b (ok_or o faults.TooLarge) (Err faults.Truncated)) ≡ None
+done_line : (b : Bool) (o : Option (Parts Instr)) → text_wrong (cond b (ok_or o texts.TooLarge) (Err texts.Truncated)) ≡ None
 done_line true None = refl
 done_line true (Some d) = refl
 done_line false o = refl
 
-done_cut : (b : Bool) (o : Option ProgramView) → is_truncated (cond b (ok_or o faults.TooLarge) (Err faults.Truncated)) ≡ not b
+done_cut : (b : Bool) (o : Option (Parts Instr)) → text_cut (cond b (ok_or o texts.TooLarge) (Err texts.Truncated)) ≡ not b
 done_cut true None = refl
 done_cut true (Some d) = refl
 done_cut false o = refl
 
-module _ (number : ℕ) (others : Reading → Result ProgramView FileFault) where
-  one_line : (ended over right_there complete : Bool) (x : Option Reading) (rest : Option ℕ) → is_some x ≡ right_there → over ≡ complete → (over ≡ true → x ≡ None) → ((next : Reading) → x ≡ Some next → wrong_line (others next) ≡ rest)
-      → wrong_line (cond (ended || over) (ok_or x (faults.Line number)) (Err faults.Truncated) >>= others) ≡ cond ended (cond right_there rest (Some number)) (cond complete (Some number) None)
+module _ (number : ℕ) (others : Reading Instr → Result (Parts Instr) TextFault) where
+  one_line : (ended over right_there complete : Bool) (x : Option (Reading Instr)) (rest : Option ℕ) → is_some x ≡ right_there → over ≡ complete → (over ≡ true → x ≡ None) → ((next : Reading Instr) → x ≡ Some next → text_wrong (others next) ≡ rest)
+      → text_wrong (cond (ended || over) (ok_or x (texts.Line number)) (Err texts.Truncated) >>= others) ≡ cond ended (cond right_there rest (Some number)) (cond complete (Some number) None)
   one_line true over right_there complete None rest p q h f = rw (← p) refl
   one_line true over right_there complete (Some next) rest p q h f = rw (← p) (f next refl)
   one_line false true right_there complete None rest p q h f = rw (← q) refl
   one_line false true right_there complete (Some next) rest p q h f = let none = h refl in absurd cc
   one_line false false right_there complete x rest p q h f = rw (← q) refl
 
-  one_cut : (ended over right_there complete : Bool) (x : Option Reading) (rest : Bool) → is_some x ≡ right_there → over ≡ complete → (over ≡ true → x ≡ None) → ((next : Reading) → x ≡ Some next → is_truncated (others next) ≡ rest)
-      → is_truncated (cond (ended || over) (ok_or x (faults.Line number)) (Err faults.Truncated) >>= others) ≡ cond ended (right_there && rest) (not complete)
+  one_cut : (ended over right_there complete : Bool) (x : Option (Reading Instr)) (rest : Bool) → is_some x ≡ right_there → over ≡ complete → (over ≡ true → x ≡ None) → ((next : Reading Instr) → x ≡ Some next → text_cut (others next) ≡ rest)
+      → text_cut (cond (ended || over) (ok_or x (texts.Line number)) (Err texts.Truncated) >>= others) ≡ cond ended (right_there && rest) (not complete)
   one_cut true over right_there complete None rest p q h f = rw (← p) refl
   one_cut true over right_there complete (Some next) rest p q h f = rw (← p) (f next refl)
   one_cut false true right_there complete None rest p q h f = rw (← q) refl
@@ -326,17 +354,17 @@ module _ (number : ℕ) (others : Reading → Result ProgramView FileFault) wher
   one_cut false false right_there complete x rest p q h f = rw (← q) refl
 
 module _ (laws : OneLine) where
-  lines_wrong : (r : Reading) (before : List (List ℕ)) (ls : List LineView) → Behind r.section before → wrong_line (read_from any_size r ls) ≡ first_wrong before ls
+  lines_wrong : (r : Reading Instr) (before : List (List ℕ)) (ls : List LineView) → Behind r.section before → text_wrong (read_from program_kind any_size r ls) ≡ first_wrong before ls
   lines_wrong r before [] h = done_line (is_ended r.section) r.draft
   lines_wrong r before (line ∷ others) h =
-      one_line line.number (λ next. read_from any_size next others) line.ended (is_ended r.section) (right before line.text) (is_complete before) (after any_size r line.text) (first_wrong (line.text ∷ before) others)
+      one_line line.number (λ next. read_from program_kind any_size next others) line.ended (is_ended r.section) (right before line.text) (is_complete before) (after program_kind any_size r line.text) (first_wrong (line.text ∷ before) others)
       (right_is laws r.section before r.draft line.text h) (ended_is laws r.section before h) (nothing_follows r.section r.draft line.text)
       (λ next e. lines_wrong next (line.text ∷ before) others (line_follows laws r.section before r.draft line.text next h e))
 
-  lines_cut : (r : Reading) (before : List (List ℕ)) (ls : List LineView) → Behind r.section before → is_truncated (read_from any_size r ls) ≡ is_cut_off before ls
+  lines_cut : (r : Reading Instr) (before : List (List ℕ)) (ls : List LineView) → Behind r.section before → text_cut (read_from program_kind any_size r ls) ≡ is_cut_off before ls
   lines_cut r before [] h = done_cut (is_ended r.section) r.draft ∙ ap not (ended_is laws r.section before h)
   lines_cut r before (line ∷ others) h =
-      one_cut line.number (λ next. read_from any_size next others) line.ended (is_ended r.section) (right before line.text) (is_complete before) (after any_size r line.text) (is_cut_off (line.text ∷ before) others)
+      one_cut line.number (λ next. read_from program_kind any_size next others) line.ended (is_ended r.section) (right before line.text) (is_complete before) (after program_kind any_size r line.text) (is_cut_off (line.text ∷ before) others)
       (right_is laws r.section before r.draft line.text h) (ended_is laws r.section before h) (nothing_follows r.section r.draft line.text)
       (λ next e. lines_cut next (line.text ∷ before) others (line_follows laws r.section before r.draft line.text next h e))
 
@@ -366,11 +394,29 @@ judged_cut : (reading : Result ProgramView FileFault) → is_truncated (reading 
 judged_cut (Ok d) = later_cut d (ltb MAX_CELLS d.cells)
 judged_cut (Err fault) = refl
 
+-- a draft is wrong where its text is
+
+file_line : (reading : Result (Parts Instr) TextFault) → wrong_line (file_draft reading) ≡ text_wrong reading
+file_line (Ok parts) = refl
+file_line (Err (texts.Line n)) = refl
+file_line (Err texts.TooLarge) = refl
+file_line (Err texts.Truncated) = refl
+file_line (Err texts.NoMemory) = refl
+
+file_cut : (reading : Result (Parts Instr) TextFault) → is_truncated (file_draft reading) ≡ text_cut reading
+file_cut (Ok parts) = refl
+file_cut (Err (texts.Line n)) = refl
+file_cut (Err texts.TooLarge) = refl
+file_cut (Err texts.Truncated) = refl
+file_cut (Err texts.NoMemory) = refl
+
 module _ (laws : OneLine) where
   pub wrong_line-parse1_of : (bytes : List ℕ) → wrong_line (parse1_of bytes) ≡ first_wrong [] (lines bytes)
-  unfolding parse1_of draft_of
-  wrong_line-parse1_of bytes = judged_line (read_from any_size start (lines bytes)) ∙ lines_wrong laws start [] (lines bytes) refl
+  unfolding parse1_of draft_of parts_of
+  wrong_line-parse1_of bytes =
+      judged_line (file_draft (read_from program_kind any_size start (lines bytes))) ∙ file_line (read_from program_kind any_size start (lines bytes)) ∙ lines_wrong laws start [] (lines bytes) refl
 
   pub is_truncated-parse1_of : (bytes : List ℕ) → is_truncated (parse1_of bytes) ≡ is_cut_off [] (lines bytes)
-  unfolding parse1_of draft_of
-  is_truncated-parse1_of bytes = judged_cut (read_from any_size start (lines bytes)) ∙ lines_cut laws start [] (lines bytes) refl
+  unfolding parse1_of draft_of parts_of
+  is_truncated-parse1_of bytes =
+      judged_cut (file_draft (read_from program_kind any_size start (lines bytes))) ∙ file_cut (read_from program_kind any_size start (lines bytes)) ∙ lines_cut laws start [] (lines bytes) refl

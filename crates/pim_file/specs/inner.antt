@@ -1,4 +1,3 @@
 -- Definitions that only private functions and the keeping of a type cite.
 pub mod Kept
-pub mod Places
 pub mod BinaryKept

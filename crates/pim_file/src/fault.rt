@@ -3,6 +3,7 @@ ghost use Rattle.pim_file.specs.declared.fault.FileFault.TheVariants as faults;
 
 use pim_io::NoMemory;
 use pim_isa::Invalid;
+use pim_text::TextFault;
 use thiserror::Error;
 
 /// Why bytes are no program file. Lines are counted from 1, bytes from 0.
@@ -41,5 +42,20 @@ impl From<Invalid> for FileFault {
 
     fn from(invalid: Invalid) -> FileFault {
         FileFault::Invalid(invalid)
+    }
+}
+
+impl From<TextFault> for FileFault {
+    ghost use Rattle.pim_file.specs.ProgramFile.{file_fault};
+
+    ghost from_gives = { λ text fault. fault ≡ file_fault text };
+
+    fn from(fault: TextFault) -> FileFault {
+        match fault {
+            TextFault::Line(number) => FileFault::Line(number),
+            TextFault::TooLarge => FileFault::TooLarge,
+            TextFault::Truncated => FileFault::Truncated,
+            TextFault::NoMemory => FileFault::NoMemory,
+        }
     }
 }

@@ -1,9 +1,8 @@
-ghost use Rattle.std.specs.Prelude.{◌≡◌, Some, None, OnOk};
+ghost use Rattle.std.specs.Prelude.{◌≡◌, OnOk};
 ghost use Rattle.std.specs.Option.{ok_or};
 ghost use Rattle.pim_io.specs.Names.{IsLabel, label as label_of};
 ghost use Rattle.pim_text.specs.PortLines.{port_view};
-ghost use Rattle.pim_file.specs.Reading.{begun, with_input, with_output, with_instr};
-ghost use Rattle.pim_file.specs.inner.Kept.{within_limit};
+ghost use Rattle.pim_file.specs.inner.Kept.{begun, with_input, with_output, with_instr, within_limit};
 
 use crate::fault::FileFault;
 use pim_io::NoMemory;
@@ -12,8 +11,8 @@ use pim_text::PortLine;
 use std::alloc::Global;
 use std::marker::Model;
 
-/// A draft that is kept while a file is read: none before the number of cells is told, and none where that is above the
-/// limit, so that the lines behind it are judged and not kept.
+/// A draft that is kept while a binary file is read: none where the number of cells is above the limit, so that what follows is
+/// judged and not kept.
 #[derive(Debug, Drop)]
 pub(crate) struct Kept {
     draft: Option<ProgramDraft>,
@@ -29,13 +28,6 @@ impl Model for Kept {
 }
 
 impl Kept {
-    /// No draft yet.
-    pub(crate) fn new() -> Kept
-        ensures { result ≡ None }
-    {
-        Kept { draft: None }
-    }
-
     /// A draft without ports and instructions, if it has not too many cells.
     pub(crate) fn begun(alloc: Global, target: Target, cells: u32) -> Kept
         ensures { result ≡ within_limit (begun target cells) }

@@ -6,8 +6,6 @@ mod fault;
 mod kept;
 mod parsing;
 mod printing;
-mod reader;
-mod section;
 
 pub use binary::print_binary;
 pub use fault::FileFault;

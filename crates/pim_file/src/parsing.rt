@@ -6,20 +6,17 @@ ghost use Rattle.pim_file.specs.Spelled.{HasText};
 ghost use Rattle.pim_file.specs.inner.Kept.{HasFewParts};
 ghost use Rattle.pim_io.specs.Readings.{Gives};
 ghost use Rattle.pim_file.specs.Text.{text as text_of};
-ghost use Rattle.pim_file.specs.Reading.{start};
 ghost use Rattle.pim_file.specs.Right.{first_wrong, is_cut_off, wrong_line, is_truncated};
-ghost use Rattle.pim_file.specs.ProgramFile.{read_from, draft_of, parse1_of};
+ghost use Rattle.pim_file.specs.ProgramFile.{draft_of, sized_draft_of, parse1_of};
 ghost use Rattle.pim_file.specs.Binary.{bin};
 ghost use Rattle.pim_file.specs.BinaryReading.{is_binary, draft2_of, parse_of};
 ghost use Rattle.pim_file.specs.BinarySpelled.{HasBinary};
-ghost use Rattle.pim_file.specs.inner.Kept.{within_limit, program_within_limit};
 
 use crate::binary::{has_tag, parse_binary};
 use crate::fault::FileFault;
-use crate::reader::Reader;
-use pim_io::{MAX_PROGRAM, Scan};
+use pim_io::MAX_PROGRAM;
 use pim_isa::{Program, ProgramDraft};
-use pim_text::line_laws;
+use pim_text::{line_laws, read_draft, text_laws};
 use std::alloc::Global;
 
 /// The program that a text is of, or the first fault: the first line that may not stand where it stands, else that the
@@ -39,6 +36,7 @@ pub fn parse_text(alloc: Global, bytes: &[u8]) -> Result<Program, FileFault>
     ensures spelled { IfOk result (λ program. bytes.now ≡ text_of program) }
 {
     line_laws();
+    text_laws::<ProgramDraft>();
     validated(alloc, bytes)
 }
 
@@ -56,6 +54,7 @@ pub fn parse(alloc: Global, bytes: &[u8]) -> Result<Program, FileFault>
     ensures draft { IsTrue (is_binary bytes.now) → (d : ProgramView) → (draft2_of bytes.now ≡ Ok d) ↔ (HasBinary d × (bytes.now ≡ bin d)) }
 {
     line_laws();
+    text_laws::<ProgramDraft>();
     either(alloc, bytes)
 }
 
@@ -72,25 +71,21 @@ fn either(alloc: Global, bytes: &[u8]) -> Result<Program, FileFault>
 }
 
 /// The program of the draft of a program file.
+#[tactic(auto, unfolding(crate::specs::ProgramFile::parse1_of))]
 fn validated(alloc: Global, bytes: &[u8]) -> Result<Program, FileFault>
     requires { length bytes.now ≤ MAX_PROGRAM }
-    ensures { Gives FileFault.NoMemory (λ program. program) result (program_within_limit bytes.now) }
+    ensures { Gives FileFault.NoMemory (λ program. program) result (parse1_of bytes.now) }
 {
     let draft = draft(alloc, bytes)?;
     Ok(Program::new(draft)?)
 }
 
 /// The draft of a program file, not checked yet.
+#[tactic(auto, using(crate::proofs::Laws::gives_ok, crate::proofs::Laws::gives_err))]
 fn draft(alloc: Global, bytes: &[u8]) -> Result<ProgramDraft, FileFault>
     requires { length bytes.now ≤ MAX_PROGRAM }
-    ensures exact { Gives FileFault.NoMemory (λ draft. draft) result (read_from within_limit start (lines bytes.now)) }
+    ensures exact { Gives FileFault.NoMemory (λ draft. draft) result (sized_draft_of bytes.now) }
     ensures few { IfOk result HasFewParts }
 {
-    line_laws();
-    let mut reader = Reader::new(alloc);
-    let mut scan = Scan::new(bytes);
-    while let Some(line) = scan.line() {
-        reader.line(line)?;
-    }
-    reader.finish()
+    Ok(read_draft::<ProgramDraft>(alloc, bytes)?)
 }

@@ -4,8 +4,8 @@ ghost use Rattle.pim_file.specs.ProgramFile.{parse1_of};
 ghost use Rattle.pim_file.specs.Text.{head_text, instrs_text, text as text_of};
 
 use pim_io::NoMemory;
-use pim_isa::{Instr, Program, Target};
-use pim_text::{Text, line_laws, push_instr, push_ports, target_name};
+use pim_isa::{Instr, Program, ProgramDraft, Target};
+use pim_text::{Text, line_laws, push_instr, push_ports, target_name, text_laws};
 use std::alloc::Global;
 
 /// The lines before the ports.
@@ -37,6 +37,7 @@ pub fn print(alloc: Global, program: &Program) -> Result<Vec<u8>, NoMemory>
     ensures cut { IfOk result (λ bytes. (k : ℕ) → k < length bytes.items → parse1_of (take k bytes.items) ≡ Err faults.Truncated) }
 {
     line_laws();
+    text_laws::<ProgramDraft>();
     let mut text = Text::new(alloc);
     push_head(&mut text, program.target(), program.cells())?;
     push_ports(&mut text, b"input ", program.inputs())?;

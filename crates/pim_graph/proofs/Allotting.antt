@@ -2,8 +2,9 @@
 use Rattle.std.proofs.Common.{◌≡◌, ◌≢◌, ◌⊎◌, ℕ, ◌+◌, ◌<◌, ◌≤◌, zero, suc, max, Bool, true, false, cond, eqb, ◌&&◌, ◌||◌, not, List, [], ◌∷◌, ◌++◌, length, get_or, set, take, drop, count_by, All, MatchOption, Option, Some, None, refl, sym, ◌∙◌, ap, subst, arith, inl, inr}
 use Rattle.std.proofs.lemmas.Bool.{cases_eq, false≢true}
 use Rattle.std.proofs.lemmas.Bool.Decides.{nat_tests, eqb_tells}
-use Rattle.std.proofs.lemmas.List.{get_or-set_same, get_or-set_other, take_more, drop_more}
-use Rattle.pim_graph.specs.Allotments.{AllotmentView, IsAllotment, IsOver, taken_at}
+use Rattle.std.proofs.Math.ListN.{drop_of_length-le}
+use Rattle.std.proofs.lemmas.List.{get_or-set_same, get_or-set_other, length-take, take_more, drop_more}
+use Rattle.pim_graph.specs.Allotments.{AllotmentView, IsAllotment, IsOver, cells_from, cells_taken, taken_at}
 use Rattle.pim_graph.specs.Graphs.{GraphView, has, kids_of}
 use Rattle.pim_graph.specs.Peaks.{IsPlaced, needed, peak_from, read_by}
 use Rattle.pim_graph.specs.Readers.{CountsReads, occurrences, still_needed}
@@ -207,25 +208,42 @@ next_within None cells old new cell first held most choice counted within more =
 ]
 next_within (Some c) cells old new cell first held most choice counted within more = let e = ap (λ (s : SparesView). s.next) choice.1 in omega arith
 
--- and reaches it where no cell is taken over
-pub next_reaches : (taken : Option ℕ) (cells : List ℕ) (old new : SparesView) (cell first held : ℕ) → taken ≡ None → IsChoice taken cells old new cell → first + length old.free + held ≡ old.next → (old.next ≤ new.next) × (first + held + 1 ≤ new.next)
-next_reaches None cells old new cell first held e choice counted = elim (next_taken old new cell choice) [
-  | inl a ↦ (omega arith, omega arith)
-  | inr a ↦ (omega arith, omega arith)
+-- the next cell's number after a gate, where so many are held before it
+pub next_is : (taken : Option ℕ) (cells : List ℕ) (old new : SparesView) (cell first held : ℕ) → IsChoice taken cells old new cell → first + length old.free + held ≡ old.next → new.next ≡ max old.next (first + held + cells_taken taken)
+next_is None cells old new cell first held choice counted = elim (next_taken old new cell choice) [
+  | inl a ↦ omega arith
+  | inr a ↦ omega arith
 ]
-next_reaches (Some c) cells old new cell first held e choice counted = absurd (none_some (Some c) c e refl)
+next_is (Some c) cells old new cell first held choice counted = let e = ap (λ (s : SparesView). s.next) choice.1 in omega arith
 
--- what is left of the peak after one place more
-pub exact_step : (g : GraphView) (order : List ℕ) (p first most old new : ℕ) → p < length order → old ≤ new → first + count_by (needed g (drop p order)) (take p order) + 1 ≤ new → first + most ≤ max old (first + peak_from g (take p order) (drop p order)) → first + most ≤ max new (first + peak_from g (take (p + 1) order) (drop (p + 1) order))
-exact_step g order p first most old new here grown reached before =
+-- what is left of the cells after one place more
+pub cells_left : (g : GraphView) (order : List ℕ) (over : List (Option ℕ)) (p first old new whole : ℕ) → p < length order → new ≡ max old (first + count_by (needed g (drop p order)) (take p order) + cells_taken (taken_at over p)) → max old (first + cells_from g over (take p order) (drop p order)) ≡ whole → max new (first + cells_from g over (take (p + 1) order) (drop (p + 1) order)) ≡ whole
+cells_left g order over p first old new whole here grown before =
     let x = get_or order p 0 in
     let later = drop (p + 1) order in
     let earlier = take p order in
     let cut : drop p order ≡ x ∷ later = drop_more order p 0 here in
     let front : take (p + 1) order ≡ earlier ++ x ∷ [] = take_more order p 0 here in
-    let here_and_on : peak_from g earlier (drop p order) ≡ max (count_by (needed g (x ∷ later)) earlier + 1) (peak_from g (earlier ++ x ∷ []) later) = ap (peak_from g earlier) cut in
+    let len = length-take p order in
+    let place : length earlier ≡ p = omega arith in
+    let own : cells_taken (taken_at over (length earlier)) ≡ cells_taken (taken_at over p) = ap (λ (k : ℕ). cells_taken (taken_at over k)) place in
+    let here_and_on : cells_from g over earlier (drop p order) ≡ max (count_by (needed g (x ∷ later)) earlier + cells_taken (taken_at over (length earlier))) (cells_from g over (earlier ++ x ∷ []) later) = ap (cells_from g over earlier) cut in
     let readers = ap (λ (ys : List ℕ). count_by (needed g ys) earlier) cut in
-    let after = ap (λ (ys : List ℕ). peak_from g ys later) front in
+    let after = ap (λ (ys : List ℕ). cells_from g over ys later) front in
+    omega arith
+
+-- at the end of an order no cell more is taken
+pub cells_end : (g : GraphView) (order : List ℕ) (over : List (Option ℕ)) (p first next whole : ℕ) → length order ≤ p → first ≤ next → max next (first + cells_from g over (take p order) (drop p order)) ≡ whole → next ≡ whole
+cells_end g order over p first next whole h l e =
+    let none = ap (cells_from g over (take p order)) (drop_of_length-le order h) in
+    omega arith
+
+-- where no cell is taken over, an order takes as many as it holds values at once
+pub cells_peak : (g : GraphView) (over : List (Option ℕ)) (earlier later : List ℕ) → ((p : ℕ) → taken_at over p ≡ None) → cells_from g over earlier later ≡ peak_from g earlier later
+cells_peak g over earlier [] none = refl
+cells_peak g over earlier (x ∷ later) none =
+    let own : cells_taken (taken_at over (length earlier)) ≡ 1 = ap cells_taken (none (length earlier)) in
+    let rest = cells_peak g over (earlier ++ x ∷ []) later none in
     omega arith
 
 pub option_all : (taken : Option ℕ) (P : ℕ → Type 0) → ((c : ℕ) → taken ≡ Some c → P c) → MatchOption taken (Unit {0}) P

@@ -1,5 +1,6 @@
 -- Small graphs, with their usages, orders and peaks by computation.
-use Rattle.std.specs.Prelude.{◌≡◌, ℕ, true, false, List, [], ◌∷◌, refl, map}
+use Rattle.std.specs.Prelude.{◌≡◌, ℕ, true, false, List, [], ◌∷◌, Some, None, refl, map}
+use Rattle.pim_graph.specs.Allotments.{cells_along}
 use Rattle.pim_graph.specs.Graphs.{GraphView}
 use Rattle.pim_graph.specs.Orders.{order, IsReached}
 use Rattle.pim_graph.specs.Orders.IsReached.{as_root, as_child}
@@ -20,6 +21,14 @@ shared_order = refl
 
 shared_peak : peak (shared (3 ∷ [])) (0 ∷ 1 ∷ 2 ∷ 3 ∷ []) ≡ 3
 shared_peak = refl
+
+-- in these four places the gates 2 and 3 take over the cells of the gates 0 and 2: two cells are in use at once; without that it
+-- is three
+shared_cells : cells_along (shared (3 ∷ [])) (0 ∷ 1 ∷ 2 ∷ 3 ∷ []) (None ∷ None ∷ Some 0 ∷ Some 2 ∷ []) ≡ 2
+shared_cells = refl
+
+shared_own_cells : cells_along (shared (3 ∷ [])) (0 ∷ 1 ∷ 2 ∷ 3 ∷ []) [] ≡ 3
+shared_own_cells = refl
 
 -- a gate that no root reaches is left out
 part_order : order (shared (1 ∷ [])) ≡ 1 ∷ []

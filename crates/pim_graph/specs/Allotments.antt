@@ -1,5 +1,5 @@
 -- Cells for the gates of an order.
-use Rattle.std.specs.Prelude.{◌≡◌, ◌≢◌, ℕ, ◌+◌, ◌<◌, ◌≤◌, true, false, List, drop, length, take, slice_index, slice_index_or, Option, Some, None}
+use Rattle.std.specs.Prelude.{◌≡◌, ◌≢◌, ℕ, ◌+◌, ◌<◌, ◌≤◌, max, true, false, List, [], ◌∷◌, ◌++◌, count_by, drop, length, take, slice_index, slice_index_or, Option, Some, None}
 use Rattle.pim_graph.specs.Graphs.{GraphView, has, kids_of}
 use Rattle.pim_graph.specs.Peaks.{needed}
 
@@ -28,3 +28,19 @@ pub record IsAllotment (g : GraphView) (order : List ℕ) (over : List (Option �
       slice_index a.cells (slice_index order p) ≡ slice_index a.cells c
   pub apart : (p y : ℕ) → p < length order → has (take p order) y ≡ true → needed g (drop p order) y ≡ true →
       taken_at over p ≢ Some y → slice_index a.cells y ≢ slice_index a.cells (slice_index order p)
+
+-- how many cells the gate at a place takes: none where it takes one over
+abbrev pub cells_taken : Option ℕ → ℕ
+cells_taken None = 1
+cells_taken (Some c) = 0
+
+-- the greatest number of cells that are in use at a place of the rest of an order: that of the gate there, and those of the
+-- earlier gates that are roots or are read by the gate there or a later one; a cell that the gate takes over counts once
+abbrev pub cells_from : GraphView → List (Option ℕ) → List ℕ → List ℕ → ℕ
+cells_from g over earlier [] = 0
+cells_from g over earlier (x ∷ later) =
+    max (count_by (needed g (x ∷ later)) earlier + cells_taken (taken_at over (length earlier))) (cells_from g over (earlier ++ x ∷ []) later)
+
+-- how many cells an order takes, 0 for the empty one
+abbrev pub cells_along : GraphView → List ℕ → List (Option ℕ) → ℕ
+cells_along g order over = cells_from g over [] order

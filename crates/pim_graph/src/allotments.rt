@@ -1,5 +1,5 @@
 ghost use Rattle.std.specs.Prelude.{◌≡◌, ◌+◌, ◌-◌, ◌<◌, ◌≤◌, ◌^◌, ℕ, true, All, List, Some, None, drop, length, slice_index, slice_set, IfOk, OnOk, MatchOption, vec_len};
-ghost use Rattle.pim_graph.specs.Allotments.{IsAllotment, IsOver, taken_at};
+ghost use Rattle.pim_graph.specs.Allotments.{IsAllotment, IsOver, cells_along, taken_at};
 ghost use Rattle.pim_graph.specs.Peaks.{IsPlaced, needed, peak};
 ghost use Rattle.pim_graph.specs.Readers.{occurrences};
 ghost use Rattle.pim_graph.specs.inner.Pools.{IsChoice, IsPool, holds, is_taken};
@@ -60,7 +60,8 @@ pub fn allot(
     requires room { first + length order.now < 2 ^ 32 }
     ensures allotment { IfOk result (λ a. IsAllotment graph.now order.now over.now first a) }
 
-    // No more cells than the order holds values at once, and as many where no cell is taken over.
+    // As many cells as are in use at once: no more than the order holds values at once, and as many where no cell is taken over.
+    ensures cells { IfOk result (λ a. a.width ≡ first + cells_along graph.now order.now over.now) }
     ensures width { IfOk result (λ a. a.width ≤ first + peak graph.now order.now) }
     ensures exact { IfOk result (λ a. ((p : ℕ) → taken_at over.now p ≡ None) → a.width ≡ first + peak graph.now order.now) }
 {

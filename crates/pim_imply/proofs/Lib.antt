@@ -4,9 +4,7 @@ pub mod FitLemmas
 pub mod GateReads
 pub mod Literals
 pub mod Netlists
-pub mod OneText
 pub mod Orders
-pub mod ReadBack
 mod ReadExamples
 pub mod Rows
 pub mod TextLaws

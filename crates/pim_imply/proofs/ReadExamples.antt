@@ -2,6 +2,7 @@
 use Rattle.std.proofs.Common.{◌≡◌, ℕ, List, [], ◌∷◌, ◌++◌, Some, None, Ok, Err, codes, refl}
 use Rattle.pim_io.specs.Words.{number_of}
 use Rattle.pim_text.specs.Fields.{plain_number}
+use Rattle.pim_text.specs.Reading.{parts_of}
 use Rattle.pim_imply.specs.Lines.{instr_of}
 use Rattle.pim_imply.specs.Reading.{draft_of, imply_of}
 use Rattle.pim_imply.specs.declared.fault.ImplyFault.TheVariants as faults
@@ -40,44 +41,44 @@ not_program : imply_of (head ++ line (codes "input 0 a") ++ line (codes "output 
       outputs = record { cell = 1; label = codes "f" } ∷ [];
       instrs = False 1 ∷ Imp 0 1 ∷ [];
     })
-unfolding imply_of draft_of plain_number number_of
+unfolding imply_of draft_of parts_of plain_number number_of
 not_program = refl
 
 same_cell : imply_of (head ++ line (codes "cycles 1") ++ line (codes "imp 1 1") ++ line (codes "end")) ≡ Err (faults.Invalid (invalid.SameCell 0))
-unfolding imply_of draft_of plain_number number_of
+unfolding imply_of draft_of parts_of plain_number number_of
 same_cell = refl
 
 -- an input stands before the outputs
 late_input : imply_of (head ++ line (codes "output 1 f") ++ line (codes "input 0 a")) ≡ Err (faults.Line 4)
-unfolding imply_of draft_of plain_number number_of
+unfolding imply_of draft_of parts_of plain_number number_of
 late_input = refl
 
 too_few_cycles : imply_of (head ++ line (codes "cycles 1") ++ line (codes "end")) ≡ Err (faults.Line 4)
-unfolding imply_of draft_of plain_number number_of
+unfolding imply_of draft_of parts_of plain_number number_of
 too_few_cycles = refl
 
 -- a last piece without a newline is not judged before `end`
 cut_off : imply_of (line (codes "imply 1") ++ codes "wrong") ≡ Err faults.Truncated
-unfolding imply_of draft_of
+unfolding imply_of draft_of parts_of
 cut_off = refl
 
 nothing : imply_of [] ≡ Err faults.Truncated
-unfolding imply_of draft_of
+unfolding imply_of draft_of parts_of
 nothing = refl
 
 -- behind `end` each byte is wrong
 byte_behind_end : imply_of (head ++ line (codes "cycles 0") ++ line (codes "end") ++ codes "x") ≡ Err (faults.Line 5)
-unfolding imply_of draft_of plain_number number_of
+unfolding imply_of draft_of parts_of plain_number number_of
 byte_behind_end = refl
 
 abbrev large_head : List ℕ
 large_head = line (codes "imply 1") ++ line (codes "cells 1048577")
 
 too_large : imply_of (large_head ++ line (codes "cycles 0") ++ line (codes "end")) ≡ Err faults.TooLarge
-unfolding imply_of draft_of plain_number number_of
+unfolding imply_of draft_of parts_of plain_number number_of
 too_large = refl
 
 -- a wrong line comes before too many cells
 line_before_size : imply_of (large_head ++ line (codes "wrong")) ≡ Err (faults.Line 3)
-unfolding imply_of draft_of plain_number number_of
+unfolding imply_of draft_of parts_of plain_number number_of
 line_before_size = refl

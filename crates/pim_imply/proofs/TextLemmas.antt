@@ -14,16 +14,12 @@ use Rattle.pim_text.specs.Fields.{lacks, plain_number}
 use Rattle.pim_text.specs.LineForms.{counted_of, port_of}
 use Rattle.pim_text.specs.LineLaws.{LackNewlines, OneLine, ReadLines}
 use Rattle.pim_text.specs.Spelled.{HasPortLine}
-use Rattle.pim_text.specs.Text.{counted_text, port_line}
+use Rattle.pim_text.specs.Text.{port_line}
 use Rattle.pim_imply.specs.Lines.{false_of, imp_of, instr_of}
 use Rattle.pim_imply.specs.Spelled.{HasLine}
 use Rattle.pim_imply.specs.Text.{imply_text}
 use Rattle.pim_imply.specs.declared.instr.ImplyInstr.{ImplyInstr}
 use Rattle.pim_imply.specs.declared.instr.ImplyInstr.TheVariants.{False, Imp}
-
--- the lines before the ports
-abbrev pub head_text : ℕ → List ℕ
-head_text cells = counted_text (codes "imply 1\ncells ") cells
 
 -- options
 
@@ -33,7 +29,7 @@ there x = Some x
 some_is : {A : Type 0} (x y : A) → there x ≡ there y → x ≡ y
 some_is x y e = cc
 
-pub mapped : {A B : Type 0} (f : A → B) (o : Option A) (y : B) → option_map f o ≡ Some y → (x : A) × (o ≡ Some x) × (f x ≡ y)
+mapped : {A B : Type 0} (f : A → B) (o : Option A) (y : B) → option_map f o ≡ Some y → (x : A) × (o ≡ Some x) × (f x ≡ y)
 mapped f None y e = absurd cc
 mapped f (Some x) y e = (x, refl, some_is (f x) y e)
 
@@ -42,7 +38,7 @@ bind_some None f y e = absurd cc
 bind_some (Some x) f y e = (x, refl, e)
 
 -- the first of two options, or the second
-pub or_is : {A : Type 0} (a b : Option A) (y : A) → option_or a b ≡ Some y → (a ≡ Some y) ⊎ (b ≡ Some y)
+or_is : {A : Type 0} (a b : Option A) (y : A) → option_or a b ≡ Some y → (a ≡ Some y) ⊎ (b ≡ Some y)
 or_is None b y e = inr e
 or_is (Some x) b y e = inl e
 
@@ -137,3 +133,8 @@ module _ (lack : LackNewlines) where
   pub lacks-instr : (i : ImplyInstr) → HasLine i → lacks 10 (imply_text i) ≡ true
   lacks-instr (False q) h = ap (lacks 10) (false_text q) ∙ lack.counted (codes "false ") q refl h
   lacks-instr (Imp p q) h = ap (lacks 10) (imp_text p q) ∙ lack.port (codes "imp ") (imp_port p q) refl (imp_has_line p q h)
+
+-- the line of an instruction isn't empty
+pub line_is_some : (i : ImplyInstr) → 1 ≤ length (imply_text i)
+line_is_some (False q) = omega arith
+line_is_some (Imp p q) = omega arith

@@ -1,5 +1,6 @@
 -- The text of a program of the IMPLY machine, or of a draft of one.
 use Rattle.std.specs.Prelude.{ℕ, List, [], ◌∷◌, ◌++◌, length, codes}
+use Rattle.pim_text.specs.Parts.{instrs_text as lines_of}
 use Rattle.pim_text.specs.Text.{numbers_text, counted_text, ports_text}
 use Rattle.pim_imply.specs.declared.instr.ImplyInstr.{ImplyInstr}
 use Rattle.pim_imply.specs.declared.instr.ImplyInstr.TheVariants.{False, Imp}
@@ -12,8 +13,7 @@ imply_text (Imp p q) = codes "imp" ++ numbers_text (p ∷ q ∷ [])
 
 -- the line of each instruction
 abbrev pub instrs_text : List ImplyInstr → List ℕ
-instrs_text [] = []
-instrs_text (instr ∷ instrs) = (imply_text instr ++ codes "\n") ++ instrs_text instrs
+instrs_text instrs = lines_of imply_text instrs
 
 -- the whole text; the number of cycles is the number of instructions
 abbrev pub text : ImplyView → List ℕ

@@ -1,9 +1,12 @@
 ghost use Rattle.std.specs.Prelude.{◌≡◌, ◌<◌, ◌≤◌, [], ◌∷◌, ◌++◌, length, OnOk, OnErr};
 ghost use Rattle.pim_io.specs.Names.{label as label_of};
+ghost use Rattle.pim_imply.specs.Reading.{imply_kind, imply_parts};
 
 use crate::instr::ImplyInstr;
+use crate::lines::instr_of;
 use pim_io::NoMemory;
 use pim_isa::{MAX_CELLS, ProgramDraft, Target};
+use pim_text::{Draft, PortLine, line_laws};
 use std::alloc::Global;
 use std::marker::Model;
 
@@ -67,5 +70,45 @@ impl ImplyDraft {
     {
         self.instrs.push(instr)?;
         Ok(())
+    }
+}
+
+impl Draft for ImplyDraft {
+    type Instr = ImplyInstr;
+
+    ghost kind = { imply_kind };
+
+    ghost parts = { λ d. imply_parts d };
+
+    fn first_line() -> &'static [u8] {
+        b"imply 1"
+    }
+
+    fn only_target() -> Option<Target> {
+        Some(Target::Plim)
+    }
+
+    fn instr(_alloc: Global, line: &[u8]) -> Result<Option<ImplyInstr>, NoMemory> {
+        Ok(instr_of(line))
+    }
+
+    fn begun(alloc: Global, _target: Target, cells: u32) -> ImplyDraft {
+        ImplyDraft::new(alloc, cells)
+    }
+
+    fn put_input(&mut self, port: PortLine) -> Result<(), NoMemory> {
+        self.add_input(port.cell, port.label)
+    }
+
+    fn put_output(&mut self, port: PortLine) -> Result<(), NoMemory> {
+        self.add_output(port.cell, port.label)
+    }
+
+    fn put(&mut self, instr: ImplyInstr) -> Result<(), NoMemory> {
+        self.add(instr)
+    }
+
+    fn tell_kind() {
+        line_laws();
     }
 }

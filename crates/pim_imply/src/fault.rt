@@ -3,6 +3,7 @@ ghost use Rattle.pim_imply.specs.declared.fault.ImplyFault.TheVariants as faults
 
 use crate::invalid::ImplyInvalid;
 use pim_io::NoMemory;
+use pim_text::TextFault;
 use thiserror::Error;
 
 /// Why bytes are not the text of a program. Lines are counted from 1.
@@ -38,5 +39,20 @@ impl From<ImplyInvalid> for ImplyFault {
 
     fn from(invalid: ImplyInvalid) -> ImplyFault {
         ImplyFault::Invalid(invalid)
+    }
+}
+
+impl From<TextFault> for ImplyFault {
+    ghost use Rattle.pim_imply.specs.Reading.{imply_fault};
+
+    ghost from_gives = { λ text fault. fault ≡ imply_fault text };
+
+    fn from(fault: TextFault) -> ImplyFault {
+        match fault {
+            TextFault::Line(number) => ImplyFault::Line(number),
+            TextFault::TooLarge => ImplyFault::TooLarge,
+            TextFault::Truncated => ImplyFault::Truncated,
+            TextFault::NoMemory => ImplyFault::NoMemory,
+        }
     }
 }

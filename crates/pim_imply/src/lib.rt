@@ -9,16 +9,13 @@ mod fault;
 mod graph;
 mod instr;
 mod invalid;
-mod kept;
 mod lines;
 mod machine;
 mod parsing;
 mod printing;
 mod program;
-mod reader;
 mod refusal;
 mod scheduling;
-mod section;
 #[cfg(test)]
 mod tests;
 

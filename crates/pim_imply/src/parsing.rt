@@ -1,5 +1,4 @@
 ghost use Rattle.std.specs.Prelude.{◌≡◌, ◌↔◌, ◌≤◌, length, Ok, IfOk};
-ghost use Rattle.pim_io.specs.Lines.{lines};
 ghost use Rattle.pim_io.specs.Readings.{Gives};
 ghost use Rattle.pim_imply.specs.Programs.{ImplyView};
 ghost use Rattle.pim_imply.specs.Reading.{draft_of, imply_of};
@@ -10,9 +9,8 @@ ghost use Rattle.pim_imply.specs.inner.Bodies.{HasFewParts};
 use crate::draft::ImplyDraft;
 use crate::fault::ImplyFault;
 use crate::program::ImplyProgram;
-use crate::reader::Reader;
-use pim_io::{MAX_PROGRAM, Scan};
-use pim_text::line_laws;
+use pim_io::MAX_PROGRAM;
+use pim_text::{line_laws, read_draft, text_laws};
 use std::alloc::Global;
 
 /// The program that a text is of, or the first fault: the first line that may not stand where it stands, else that the
@@ -28,6 +26,7 @@ pub fn parse_imply(alloc: Global, bytes: &[u8]) -> Result<ImplyProgram, ImplyFau
     ensures spelled { IfOk result (λ program. bytes.now ≡ text_of program) }
 {
     line_laws();
+    text_laws::<ImplyDraft>();
     validated(alloc, bytes)
 }
 
@@ -42,17 +41,11 @@ fn validated(alloc: Global, bytes: &[u8]) -> Result<ImplyProgram, ImplyFault>
 }
 
 /// The draft of a text, not checked yet.
-#[tactic(auto, unfolding(crate::specs::Reading::draft_of))]
+#[tactic(auto, using(crate::proofs::TextLaws::gives_ok, crate::proofs::TextLaws::gives_err))]
 fn draft(alloc: Global, bytes: &[u8]) -> Result<ImplyDraft, ImplyFault>
     requires { length bytes.now ≤ MAX_PROGRAM }
     ensures exact { Gives ImplyFault.NoMemory (λ draft. draft) result (draft_of bytes.now) }
     ensures few { IfOk result HasFewParts }
 {
-    line_laws();
-    let mut reader = Reader::new(alloc);
-    let mut scan = Scan::new(bytes);
-    while let Some(line) = scan.line() {
-        reader.line(line)?;
-    }
-    reader.finish()
+    Ok(read_draft::<ImplyDraft>(alloc, bytes)?)
 }

@@ -3,10 +3,11 @@ ghost use Rattle.pim_imply.specs.declared.fault.ImplyFault.TheVariants as faults
 ghost use Rattle.pim_imply.specs.Reading.{imply_of};
 ghost use Rattle.pim_imply.specs.Text.{imply_text, instrs_text, text as text_of};
 
+use crate::draft::ImplyDraft;
 use crate::instr::ImplyInstr;
 use crate::program::ImplyProgram;
 use pim_io::NoMemory;
-use pim_text::{Text, line_laws, push_ports};
+use pim_text::{Text, line_laws, push_ports, text_laws};
 use std::alloc::Global;
 
 /// An instruction, without its newline.
@@ -39,6 +40,7 @@ pub fn print_imply(alloc: Global, program: &ImplyProgram) -> Result<Vec<u8>, NoM
     ensures cut { IfOk result (λ bytes. (k : ℕ) → k < length bytes.items → imply_of (take k bytes.items) ≡ Err faults.Truncated) }
 {
     line_laws();
+    text_laws::<ImplyDraft>();
     let mut text = Text::new(alloc);
     text.counted(b"imply 1\ncells ", program.cells())?;
     push_ports(&mut text, b"input ", program.inputs())?;

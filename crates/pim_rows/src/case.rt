@@ -11,6 +11,10 @@ use std::test::Fail;
 pub const AND_PROGRAM: &[u8] =
     b"pim 1\ntarget magic\ncells 5\ninput 0 i0\ninput 1 i1\noutput 4 o0\ncycles 4\ninit 2 3 4\nnot 2 1\nnot 3 0\nnor 4 2 3\nend\n";
 
+/// The same for PLiM.
+pub const PLIM_AND: &[u8] =
+    b"pim 1\ntarget plim\ncells 3\ninput 0 i0\ninput 1 i1\noutput 2 o0\ncycles 3\nrm3 #0 #1 @2\nrm3 @1 #0 @2\nrm3 @0 #1 @2\nend\n";
+
 /// A two-input AND in ASCII AIGER.
 pub const AND_NETLIST: &[u8] = b"aag 3 2 0 1 1\n2\n4\n6\n6 4 2\n";
 
@@ -72,6 +76,42 @@ pub fn call_over<P: Source, S: Source>(
     })
 }
 
+/// Makes the call over these sources and this output, with ample room for notes.
+pub fn call_from<P: Source, S: Source>(
+    alloc: Global,
+    words: &[&str],
+    program: &mut P,
+    input: &mut S,
+    output: &mut MemSink,
+) -> Result<Ending, Fail> {
+    let mut notes = MemSink::new(alloc, 1_048_576, 4_096, &[])?;
+    call_over(alloc, words, program, input, output, &mut notes)
+}
+
+/// Makes the call on a program file and an input, with ample room.
+pub fn call_on(
+    alloc: Global,
+    words: &[&str],
+    program: &[u8],
+    input: &[u8],
+) -> Result<Ending, Fail> {
+    call_within(alloc, words, program, input, 65_536)
+}
+
+/// Makes the call on a program file and an input, with room for so many bytes.
+pub fn call_within(
+    alloc: Global,
+    words: &[&str],
+    program: &[u8],
+    input: &[u8],
+    room: usize,
+) -> Result<Ending, Fail> {
+    let mut program = SliceSource::new(program);
+    let mut input = SliceSource::new(input);
+    let mut output = MemSink::new(alloc, room, 4_096, &[])?;
+    call_from(alloc, words, &mut program, &mut input, &mut output)
+}
+
 /// Makes the call without a program, with ample memory and room, where the input comes in pieces of so many bytes.
 pub fn call(alloc: Global, words: &[&str], input: &[u8], piece: usize) -> Result<Ending, Fail>
     requires { 0 < piece }
@@ -79,15 +119,7 @@ pub fn call(alloc: Global, words: &[&str], input: &[u8], piece: usize) -> Result
     let mut program = SliceSource::new(b"");
     let mut input = MemSource::new(alloc, input, piece, &[])?;
     let mut output = MemSink::new(alloc, 65_536, 4_096, &[])?;
-    let mut notes = MemSink::new(alloc, 1_048_576, 4_096, &[])?;
-    call_over(
-        alloc,
-        words,
-        &mut program,
-        &mut input,
-        &mut output,
-        &mut notes,
-    )
+    call_from(alloc, words, &mut program, &mut input, &mut output)
 }
 
 /// A call that was done, and wrote this.

@@ -1,25 +1,13 @@
 //! `debug`: the worked session on the AND, two breakpoints at one position, and what is refused.
-use crate::case::{AND_PROGRAM, Ending, call_over, gives, stops};
-use pim_io::{MemSink, SliceSource};
+use crate::case::{AND_PROGRAM, Ending, call_on, gives, stops};
 use pim_top::Status;
 use std::alloc::Global;
 use std::process::Abort;
 use std::test::Fail;
 
 /// Debugs the AND by these lines.
-fn debug(alloc: Global, lines: &[u8]) -> Result<Ending, Fail> {
-    let mut program = SliceSource::new(AND_PROGRAM);
-    let mut input = SliceSource::new(lines);
-    let mut output = MemSink::new(alloc, 4_096, 4_096, &[])?;
-    let mut notes = MemSink::new(alloc, 4_096, 4_096, &[])?;
-    call_over(
-        alloc,
-        &["debug", "program"],
-        &mut program,
-        &mut input,
-        &mut output,
-        &mut notes,
-    )
+pub fn debug(alloc: Global, lines: &[u8]) -> Result<Ending, Fail> {
+    call_on(alloc, &["debug", "program"], AND_PROGRAM, lines)
 }
 
 /// These lines are refused after this output, as bad input of this detail.

@@ -4,6 +4,8 @@
 #[cfg(test)]
 mod aiger;
 #[cfg(test)]
+mod bench;
+#[cfg(test)]
 mod blif;
 #[cfg(test)]
 mod case;
@@ -19,6 +21,8 @@ mod memory;
 mod outside;
 #[cfg(test)]
 mod programs;
+#[cfg(test)]
+mod prove;
 #[cfg(test)]
 mod run;
 #[cfg(test)]

@@ -1,11 +1,17 @@
-//! Calls that may find no memory: each gives what it gives with ample memory, or wants memory and writes nothing. An allocation
-//! is refused by hand, with `rt try --test --fail-alloc N`; without that these calls are done.
+//! Calls that may find no memory: each gives what it gives with ample memory, or wants memory. Then it has written nothing; a
+//! session of the debugger has written the replies before. An allocation is refused by hand, with
+//! `rt try --test --fail-alloc N`; without that these calls are done.
+use crate::bench::{ONE_BIT, SUMMARY};
 use crate::case::{
-    AND_NETLIST, AND_PROGRAM, BINARY_AND, Ending, FIVE, XOR, XOR_PROGRAM, call, gives, stops,
+    AND_NETLIST, AND_PROGRAM, BINARY_AND, Ending, FIVE, XOR, XOR_PROGRAM, call, call_on,
+    call_within, gives, stops,
 };
 use crate::compile::{REWRITING, REWRITTEN_XOR};
-use crate::imply::{IMPLIED_AND, implyrun};
-use crate::run::{repeated, run_on};
+use crate::debug::debug;
+use crate::imply::{self, IMPLIED_AND};
+use crate::programs::{BINARY, LISTING, LIVES};
+use crate::prove::prove;
+use crate::run::{ZEROS, repeated};
 use crate::share::{IN_TURNS, TWO_ANDS, behind_an_and, share};
 use pim_top::Status;
 use std::alloc::Global;
@@ -56,7 +62,7 @@ fn of_vectors(rt: HostRuntime) -> Result<(), Fail> {
     let alloc = rt.alloc();
     let vectors = repeated(alloc, b"11\n", 4_097)?;
     let results = repeated(alloc, b"1\n", 4_097)?;
-    let ending = run_on(alloc, "zeros", AND_PROGRAM, &vectors, 9_000)?;
+    let ending = call_within(alloc, ZEROS, AND_PROGRAM, &vectors, 9_000)?;
     gives_or_wants_memory(&rt, alloc, &ending, &results)
 }
 
@@ -77,18 +83,75 @@ fn of_an_implication(rt: HostRuntime) -> Result<(), Fail> {
 #[test]
 fn of_rows_of_implications(rt: HostRuntime) -> Result<(), Fail> {
     let alloc = rt.alloc();
-    let vectors = repeated(
-        alloc,
-        b"11
-",
-        4_097,
-    )?;
-    let results = repeated(
-        alloc,
-        b"1
-",
-        4_097,
-    )?;
-    let ending = implyrun(alloc, "zeros", IMPLIED_AND, &vectors, 9_000)?;
+    let vectors = repeated(alloc, b"11\n", 4_097)?;
+    let results = repeated(alloc, b"1\n", 4_097)?;
+    let ending = call_within(alloc, imply::ZEROS, IMPLIED_AND, &vectors, 9_000)?;
     gives_or_wants_memory(&rt, alloc, &ending, &results)
+}
+
+#[test]
+fn of_a_listing(rt: HostRuntime) -> Result<(), Fail> {
+    let ending = call_on(rt.alloc(), &["list", "program"], AND_PROGRAM, b"")?;
+    gives_or_wants_memory(&rt, rt.alloc(), &ending, LISTING)
+}
+
+#[test]
+fn of_an_assembly(rt: HostRuntime) -> Result<(), Fail> {
+    let ending = call_on(rt.alloc(), &["asm"], b"", LISTING)?;
+    gives_or_wants_memory(&rt, rt.alloc(), &ending, AND_PROGRAM)
+}
+
+#[test]
+fn of_an_explanation(rt: HostRuntime) -> Result<(), Fail> {
+    let ending = call_on(rt.alloc(), &["explain", "program"], AND_PROGRAM, b"")?;
+    gives_or_wants_memory(&rt, rt.alloc(), &ending, LIVES)
+}
+
+#[test]
+fn of_a_tree(rt: HostRuntime) -> Result<(), Fail> {
+    let alloc = rt.alloc();
+    let mut text = Vec::from_slice(alloc, LIVES)?;
+    text.extend_from_slice(b"tree yes gates 3 cu 3 peak 3 own 3\n")?;
+    let ending = call_on(alloc, &["explain", "program", "--tree"], AND_PROGRAM, b"")?;
+    gives_or_wants_memory(&rt, alloc, &ending, &text)
+}
+
+#[test]
+fn of_the_binary_form(rt: HostRuntime) -> Result<(), Fail> {
+    let ending = call_on(rt.alloc(), &["convert", "--form", "2"], b"", AND_PROGRAM)?;
+    gives_or_wants_memory(&rt, rt.alloc(), &ending, BINARY)
+}
+
+#[test]
+fn of_the_text_form(rt: HostRuntime) -> Result<(), Fail> {
+    let ending = call_on(rt.alloc(), &["convert", "--form", "1"], b"", BINARY)?;
+    gives_or_wants_memory(&rt, rt.alloc(), &ending, AND_PROGRAM)
+}
+
+#[test]
+fn of_a_proof(rt: HostRuntime) -> Result<(), Fail> {
+    let ending = prove(rt.alloc(), AND_PROGRAM, AND_NETLIST)?;
+    gives_or_wants_memory(&rt, rt.alloc(), &ending, b"equal 4\n")
+}
+
+#[test]
+fn of_a_bench(rt: HostRuntime) -> Result<(), Fail> {
+    let ending = call_on(rt.alloc(), ONE_BIT, b"", b"")?;
+    gives_or_wants_memory(&rt, rt.alloc(), &ending, SUMMARY)
+}
+
+/// Between two lines memory may run out, and then the replies before it are written.
+#[test]
+fn of_a_session(rt: HostRuntime) -> Result<(), Fail> {
+    let alloc = rt.alloc();
+    let ending = debug(alloc, b"11\nbreak 2\nrun\nshow\n")?;
+    let replies = b"break 0 at 2\nat 2\n1\n";
+    if ending.status == Status::NoMemory {
+        let written = ending.output.as_slice();
+        assert!(rt; replies.starts_with(written));
+        assert!(rt; written.is_empty() || written.ends_with(b"\n"));
+        return stops(&rt, alloc, &ending, Status::NoMemory, written, "no memory");
+    }
+    gives(&rt, &ending, replies);
+    Ok(())
 }

@@ -1,5 +1,5 @@
 //! Sources and sinks that fail.
-use crate::case::{AND_NETLIST, AND_PROGRAM, Ending, FIVE, call, call_over, stops};
+use crate::case::{AND_NETLIST, AND_PROGRAM, Ending, FIVE, call, call_from, call_over, stops};
 use pim_io::{MemSink, MemSource, SliceSource};
 use pim_top::Status;
 use std::alloc::Global;
@@ -15,15 +15,7 @@ fn compile_and(
     let mut program = SliceSource::new(b"");
     let mut input = MemSource::new(alloc, AND_NETLIST, 1, input_failing)?;
     let mut output = MemSink::new(alloc, room, 1, output_failing)?;
-    let mut notes = MemSink::new(alloc, 4_096, 4_096, &[])?;
-    call_over(
-        alloc,
-        FIVE,
-        &mut program,
-        &mut input,
-        &mut output,
-        &mut notes,
-    )
+    call_from(alloc, FIVE, &mut program, &mut input, &mut output)
 }
 
 #[test]

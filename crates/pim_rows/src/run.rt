@@ -5,39 +5,14 @@ mod outside;
 mod vectors;
 mod words;
 
-use crate::case::{Ending, call_over};
-use pim_io::{MemSink, SliceSource, Source};
 use std::alloc::Global;
 use std::test::Fail;
 
-const FILLINGS: [&'static str; 2] = ["zeros", "ones"];
+/// The words that run a program, where all other cells hold zeros.
+pub const ZEROS: &[&str] = &["run", "program", "--fill", "zeros"];
 
-/// Runs with this filling, over a program's source, a source of vectors and an output.
-fn run_over<P: Source, S: Source>(
-    alloc: Global,
-    filling: &str,
-    program: &mut P,
-    vectors: &mut S,
-    output: &mut MemSink,
-) -> Result<Ending, Fail> {
-    let words = ["run", "program", "--fill", filling];
-    let mut notes = MemSink::new(alloc, 4_096, 4_096, &[])?;
-    call_over(alloc, &words, program, vectors, output, &mut notes)
-}
-
-/// Runs a program on vectors, with room for so many bytes.
-pub fn run_on(
-    alloc: Global,
-    filling: &str,
-    program: &[u8],
-    vectors: &[u8],
-    room: usize,
-) -> Result<Ending, Fail> {
-    let mut program = SliceSource::new(program);
-    let mut vectors = SliceSource::new(vectors);
-    let mut output = MemSink::new(alloc, room, 4_096, &[])?;
-    run_over(alloc, filling, &mut program, &mut vectors, &mut output)
-}
+/// The same with ones.
+pub const ONES: &[&str] = &["run", "program", "--fill", "ones"];
 
 /// The same bytes so many times.
 pub fn repeated(alloc: Global, piece: &[u8], times: usize) -> Result<Vec<u8>, Fail> {

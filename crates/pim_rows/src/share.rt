@@ -3,8 +3,8 @@ mod faults;
 mod outside;
 mod rows;
 
-use crate::case::{AND_PROGRAM, Ending, call_over};
-use pim_io::{MemSink, SliceSource, Source};
+use crate::case::{AND_PROGRAM, Ending, call_from, call_on};
+use pim_io::{MemSink, Source};
 use std::alloc::Global;
 use std::test::Fail;
 
@@ -15,10 +15,6 @@ pub const IN_TURNS: &[u8] = b"0\n1\n0\n1\n0\n1\n0\n1\n";
 pub const TWO_ANDS: &[u8] =
     b"pim 1\ntarget magic\ncells 10\ninput 0 i0\ninput 1 i1\ninput 5 i0\ninput 6 i1\noutput 4 o0\noutput 9 o0\ncycles 8\ninit 2 3 4\ninit 7 8 9\nnot 2 1\nnot 7 6\nnot 3 0\nnot 8 5\nnor 4 2 3\nnor 9 7 8\nend\n";
 
-/// The program of a two-input AND for PLiM.
-const PLIM_AND: &[u8] =
-    b"pim 1\ntarget plim\ncells 3\ninput 0 i0\ninput 1 i1\noutput 2 o0\ncycles 3\nrm3 #0 #1 @2\nrm3 @1 #0 @2\nrm3 @0 #1 @2\nend\n";
-
 /// Shares a row of so many cells, over a source of programs, a source of turns and an output.
 fn share_over<P: Source, S: Source>(
     alloc: Global,
@@ -28,16 +24,13 @@ fn share_over<P: Source, S: Source>(
     output: &mut MemSink,
 ) -> Result<Ending, Fail> {
     let words = ["share", "programs", "--cells", cells];
-    let mut notes = MemSink::new(alloc, 4_096, 4_096, &[])?;
-    call_over(alloc, &words, programs, turns, output, &mut notes)
+    call_from(alloc, &words, programs, turns, output)
 }
 
 /// The same with ample room.
 pub fn share(alloc: Global, cells: &str, programs: &[u8], turns: &[u8]) -> Result<Ending, Fail> {
-    let mut programs = SliceSource::new(programs);
-    let mut turns = SliceSource::new(turns);
-    let mut output = MemSink::new(alloc, 4_096, 4_096, &[])?;
-    share_over(alloc, cells, &mut programs, &mut turns, &mut output)
+    let words = ["share", "programs", "--cells", cells];
+    call_on(alloc, &words, programs, turns)
 }
 
 /// The program of an AND, and these bytes behind it.

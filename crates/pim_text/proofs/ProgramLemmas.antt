@@ -1,9 +1,11 @@
 -- The ports and instructions of a program have lines.
-use Rattle.std.proofs.Common.{ℕ, ◌^◌, ◌<◌, ◌≤◌, List, [], ◌∷◌, ◌++◌, arith}
+use Rattle.std.proofs.Common.{ℕ, ◌^◌, ◌<◌, ◌≤◌, List, [], ◌∷◌, ◌++◌, length, arith}
 use Rattle.std.specs.List.{AllByRecursion}
 use Rattle.std.proofs.lemmas.List.Elements.{recursion_from_All}
 use Rattle.pim_isa.specs.declared.target.Target.{Target}
 use Rattle.pim_isa.specs.declared.port.Port.{Port}
+use Rattle.pim_isa.specs.declared.instr.Ins.{Ins}
+use Rattle.pim_isa.specs.declared.instr.Ins.TheVariants.{Two, Three, Four, One as Single}
 use Rattle.pim_isa.specs.declared.instr.Operand.{Operand}
 use Rattle.pim_isa.specs.declared.instr.Operand.TheVariants.{Zero, One, Cell}
 use Rattle.pim_isa.specs.declared.instr.Instr.{Instr}
@@ -12,6 +14,7 @@ use Rattle.pim_isa.specs.declared.draft.TheConstants.{MAX_CELLS}
 use Rattle.pim_isa.specs.Programs.{ProgramView}
 use Rattle.pim_isa.specs.Sound.{cells_of, IsValid, HasLabel, IsProgram}
 use Rattle.pim_isa.specs.Touches.{operand_cells, names}
+use Rattle.pim_text.specs.Text.{nor_text, instr_text}
 use Rattle.pim_text.specs.Spelled.{IsSpelledOperand, HasLine, HasPortLine, HasLines}
 
 all_weaker : {X : Type 0} (P Q : X → Type 0) (xs : List X) → ((x : X) → P x → Q x) → AllByRecursion P xs → AllByRecursion Q xs
@@ -51,3 +54,16 @@ program_lines p h = record {
   outputs = port_lines p.cells p.outputs h.small (recursion_from_All (λ c. c < p.cells) (cells_of p.outputs) h.sound.outputs) (recursion_from_All HasLabel p.outputs h.output_labels);
   instrs = all_weaker (IsValid p.target p.cells) HasLine p.instrs (λ i valid. valid_line p.target p.cells i h.small valid) (recursion_from_All (IsValid p.target p.cells) p.instrs h.sound.instrs);
 }
+
+-- the line of an instruction isn't empty
+
+nor_is_some : (t : ℕ) (ins : Ins) → 1 ≤ length (nor_text t ins)
+nor_is_some t (Single a) = omega arith
+nor_is_some t (Two a b) = omega arith
+nor_is_some t (Three a b c) = omega arith
+nor_is_some t (Four a b c d) = omega arith
+
+pub line_is_some : (i : Instr) → 1 ≤ length (instr_text i)
+line_is_some (Init cells) = omega arith
+line_is_some (Nor t ins) = nor_is_some t ins
+line_is_some (Rm3 p q z) = omega arith

@@ -5,4 +5,7 @@ pub mod PortLines
 pub mod LineForms
 pub mod InstrForms
 pub mod LineLaws
+pub mod Parts
+pub mod Reading
+pub mod ProgramTexts
 pub mod inner

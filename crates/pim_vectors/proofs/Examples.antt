@@ -6,6 +6,7 @@ use Rattle.pim_vectors.specs.Lines.{lines}
 use Rattle.pim_vectors.specs.Next.{LinesView, next_of}
 use Rattle.pim_io.specs.Lanes.{is_set, lane, column_in}
 use Rattle.pim_io.specs.Bits.{bits_of, line_of}
+use Rattle.pim_vectors.specs.Stages.{staged}
 use Rattle.pim_vectors.specs.Tiles.{vector_of}
 
 -- ---- lines: the bytes 10 and 13 are a newline and a carriage return, 48 and 49 are 0 and 1
@@ -86,6 +87,11 @@ second_column = refl
 third_row : vector_of (record { columns = 2; words = 1; buffer = 4 ∷ 3 ∷ [] }) 2 ≡ true ∷ false ∷ []
 unfolding vector_of column_in lane is_set
 third_row = refl
+
+-- the second byte of each of two columns has the rows from the ninth on
+tenth_staged_row : staged (record { columns = 2; bytes = 4 ∷ 3 ∷ 2 ∷ 1 ∷ [] }) 9 ≡ true ∷ false ∷ []
+unfolding staged is_set
+tenth_staged_row = refl
 
 bits_of_a_line : bits_of (49 ∷ 48 ∷ []) ≡ true ∷ false ∷ []
 bits_of_a_line = refl

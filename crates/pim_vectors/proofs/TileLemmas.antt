@@ -1,73 +1,24 @@
 -- Lanes of columns that stand one after another, and one bit written.
-use Rattle.std.proofs.Common.{◌≡◌, ◌≢◌, ℕ, ◌+◌, ◌-◌, ◌*◌, ◌/◌, ◌%◌, ◌^◌, ◌<◌, ◌≤◌, ◌⊎◌, inl, inr, Bool, true, false, ◌&&◌, cond, eqb, ltb, List, ◌++◌, length, take, drop, set, get_or, map, replicate, bit_and, bit_or, refl, sym, ap, subst, ◌∙◌, arith}
+use Rattle.std.proofs.Common.{◌≡◌, ◌≢◌, ℕ, ◌+◌, ◌-◌, ◌*◌, ◌/◌, ◌%◌, ◌<◌, ◌≤◌, ◌⊎◌, inl, inr, Bool, false, ◌&&◌, cond, eqb, ltb, List, ◌++◌, length, take, drop, set, get_or, map, replicate, refl, sym, ap, subst, ◌∙◌, arith}
 use Rattle.std.specs.List.{range_with_len}
-use Rattle.std.specs.Int.{bit_at, w64}
+use mir.Val.{bits}
 use Rattle.std.proofs.lemmas.Bool.{cases_eq, cases_lt, eq-eqb, ne_eqb, lt-ltb}
 use Rattle.std.proofs.lemmas.List.{get_or-set_same, get_or-set_other, get_or-take, get_or-drop, get_or-map, get_or-replicate, get_or-append-add, get_or_append_left, length-map, length-replicate, length-append, length-drop, length-set, length-take-le, take-append-le, take_all, ext_get_or}
 use Rattle.std.proofs.lemmas.List.FromFn.{length-map-range_with_len, get_or-map-range_with_len}
-use Rattle.std.proofs.lemmas.Nat.Bits.{shr_and_one, bit_at_set_same, bit_at_set_other, bit_at_clear_same, bit_at_clear_other, bit_at-zero}
 use Rattle.pim_io.specs.Lanes.{is_set, lane, column_in, with_words}
 use Rattle.pim_io.specs.Bits.{bits_of, digit_of, line_of}
 use Rattle.pim_vectors.specs.Tiles.{TileView, column_of, with_column, vector_of, IsLane}
-use Rattle.pim_vectors.specs.inner.Cells.{lane_at}
+use Rattle.pim_vectors.specs.Stages.{StageView, staged}
+use Rattle.pim_vectors.specs.inner.Cells.{lane_at, staged_at}
 use Rattle.pim_vectors.specs.inner.Kept.{IsTile}
-
--- ---- one bit of a word
-pub is_set-shifted : (n i : ℕ) → eqb (bit_and (n / 2 ^ i) 1) 1 ≡ is_set n i
-unfolding is_set
-is_set-shifted n i = ap (λ (b : ℕ). eqb b 1) (shr_and_one n i)
-
-pub is_set-set : (n k i : ℕ) → k < 64 → is_set (bit_or n (1 * 2 ^ k % 2 ^ 64)) i ≡ cond (eqb i k) true (is_set n i)
-unfolding is_set
-is_set-set n k i within =
-    elim (cases_eq i k) [
-      | inl same ↦ rw (eq-eqb i k same) (ap (λ (j : ℕ). eqb (bit_at (bit_or n (1 * 2 ^ k % 2 ^ 64)) j) 1) same ∙ ap (λ (b : ℕ). eqb b 1) (bit_at_set_same w64 n k within))
-      | inr other ↦ rw (ne_eqb i k other) (ap (λ (b : ℕ). eqb b 1) (bit_at_set_other w64 n k within i other))
-    ]
-
-pub is_set-clear : (n k i : ℕ) → k < 64 → i < 64 → is_set (bit_and n (2 ^ 64 - 1 - (1 * 2 ^ k % 2 ^ 64))) i ≡ cond (eqb i k) false (is_set n i)
-unfolding is_set
-is_set-clear n k i within small =
-    elim (cases_eq i k) [
-      | inl same ↦ rw (eq-eqb i k same) (ap (λ (j : ℕ). eqb (bit_at (bit_and n (2 ^ 64 - 1 - (1 * 2 ^ k % 2 ^ 64))) j) 1) same ∙ ap (λ (b : ℕ). eqb b 1) (bit_at_clear_same w64 n k within))
-      | inr other ↦ rw (ne_eqb i k other) (ap (λ (b : ℕ). eqb b 1) (bit_at_clear_other w64 n k within i small other))
-    ]
-
-is_set-zero : (i : ℕ) → is_set 0 i ≡ false
-unfolding is_set
-is_set-zero i = ap (λ (b : ℕ). eqb b 1) (bit_at-zero i)
-
--- ---- places of columns
-pub low_within : (w c t : ℕ) → c < t → c * w + w ≤ t * w
-low_within w c t low = grind arith
-
--- two words at one place are of one column
-pub same_column : (w c k i j : ℕ) → i < w → j < w → c * w + i ≡ k * w + j → (c ≡ k) × (i ≡ j)
-same_column w c k i j p q e =
-    elim (cases_lt c k) [
-      | inl below ↦ absurd (omega (arith, low_within w c k below))
-      | inr not_below ↦
-          elim (cases_lt k c) [
-            | inl above ↦ absurd (omega (arith, low_within w k c above))
-            | inr not_above ↦
-                let same : c ≡ k = omega arith in
-                (same, omega (arith, ap (λ (n : ℕ). n * w) same))
-          ]
-    ]
+use Rattle.pim_vectors.proofs.BitLemmas.{is_set-zero, low_within, same_column}
+use Rattle.pim_vectors.proofs.StageLemmas.{length-staged, get_or-staged}
 
 -- a lane of a column's words
 pub lane-column : (w : ℕ) (buffer : List ℕ) (c r : ℕ) → r < 64 * w → lane (column_in w buffer c) r ≡ lane_at w buffer c r
 unfolding lane lane_at column_in
 lane-column w buffer c r small =
     ap (λ (n : ℕ). is_set n (r % 64)) (get_or-take w (drop (c * w) buffer) (r / 64) 0 (omega arith) ∙ get_or-drop (c * w) buffer (r / 64) 0)
-
--- a lane of a column of one word
-pub lane_at-one : (w : ℕ) (buffer : List ℕ) (c r : ℕ) → w ≡ 1 → r < 64 * w → lane_at w buffer c r ≡ is_set (get_or buffer c 0) r
-unfolding lane_at
-lane_at-one w buffer c r one small =
-    let at : c * w + r / 64 ≡ c = omega (arith, ap (λ (n : ℕ). c * n) one) in
-    let place : r % 64 ≡ r = omega arith in
-    rw (at, place) refl
 
 -- one bit was written
 pub lane_at-set : (w : ℕ) (buffer : List ℕ) (k row word : ℕ) (b : Bool) → row < 64 * w → k * w + w ≤ length buffer →
@@ -316,35 +267,30 @@ with_column_rows t k column tile small long =
     (lane_at-put w k t.buffer column start refl within long)
 
 -- ---- 64 rows that stand in the same word of each column
--- a tile of one word has a word for each column
-pub length-single : (view t : TileView) (items : List ℕ) → view ≡ t → IsTile view → items ≡ view.buffer → t.words ≡ 1 → length items ≡ t.columns
-length-single view t items is tile items_are one =
-    let single : view.words ≡ 1 = ap (λ (x : TileView). x.words) is ∙ one in
-    ap length items_are ∙ tile.whole ∙ omega (arith, ap (λ (n : ℕ). view.columns * n) single) ∙ ap (λ (x : TileView). x.columns) is
-
 -- the rows after words were written
-pub put_block_rows : (view t block_view block : TileView) (old new items words : List ℕ) (at : ℕ) → view ≡ t → items ≡ new → old ≡ view.buffer →
-    block_view ≡ block → words ≡ block_view.buffer → length words ≡ block.columns → block.words ≡ 1 → block.columns ≡ t.columns →
-    ((c : ℕ) → c < length words → get_or new (c * view.words + at) 0 ≡ get_or words c 0) →
+pub put_block_rows : (view t : TileView) (stage : StageView) (old new items bytes : List ℕ) (columns at : ℕ) → view ≡ t → items ≡ new → old ≡ view.buffer →
+    bytes ≡ stage.bytes → columns ≡ view.columns → stage.columns ≡ t.columns →
+    ((c r : ℕ) → c < columns → r < 64 → is_set (get_or new (c * view.words + at) 0) r ≡ staged_at columns bytes c r) →
     ((c v : ℕ) → v < view.words → v ≢ at → get_or new (c * view.words + v) 0 ≡ get_or old (c * view.words + v) 0) →
-    (r : ℕ) → IsLane t r → vector_of (record view { buffer = items }) r ≡ cond (eqb (r / 64) at) (vector_of block (r % 64)) (vector_of t r)
+    (r : ℕ) → IsLane t r → vector_of (record view { buffer = items }) r ≡ cond (eqb (r / 64) at) (staged stage (r % 64)) (vector_of t r)
 unfolding lane_at
-put_block_rows view t block_view block old new items words at is items_are old_is block_is words_are long single columns written others r row =
+put_block_rows view t stage old new items bytes columns at is items_are old_is bytes_are count same_count written others r row =
     let after : TileView = record view { buffer = items } in
     let same_words : view.words ≡ t.words = ap (λ (x : TileView). x.words) is in
     let same_columns : view.columns ≡ t.columns = ap (λ (x : TileView). x.columns) is in
+    let stage_columns : columns ≡ stage.columns = count ∙ same_columns ∙ sym same_count in
     let place : r / 64 < view.words = omega (arith, same_words) in
     elim (cases_eq (r / 64) at) [
       | inl same ↦
           rw (eq-eqb (r / 64) at same)
-          (row_from_lanes after r (vector_of block (r % 64)) (omega (arith, same_words)) (length-vector_of block (r % 64) ∙ columns ∙ sym same_columns)
+          (row_from_lanes after r (staged stage (r % 64)) (omega (arith, same_words)) (length-staged stage (r % 64) ∙ same_count ∙ sym same_columns)
           (λ c small.
           ap (λ (l : List ℕ). is_set (get_or l (c * view.words + r / 64) 0) (r % 64)) items_are
           ∙ ap (λ (n : ℕ). is_set (get_or new (c * view.words + n) 0) (r % 64)) same
-          ∙ ap (λ (n : ℕ). is_set n (r % 64)) (written c (omega (arith, same_columns)))
-          ∙ ap (λ (l : List ℕ). is_set (get_or l c 0) (r % 64)) (words_are ∙ ap (λ (x : TileView). x.buffer) block_is)
-          ∙ sym (lane_at-one block.words block.buffer c (r % 64) single (omega (arith, single)))
-          ∙ sym (get_or-vector_of block (r % 64) c (omega (arith, single)) (omega (arith, same_columns)))))
+          ∙ written c (r % 64) (omega (arith, count)) (omega arith)
+          ∙ ap (λ (l : List ℕ). staged_at columns l c (r % 64)) bytes_are
+          ∙ ap (λ (n : ℕ). staged_at n stage.bytes c (r % 64)) stage_columns
+          ∙ sym (get_or-staged stage (r % 64) c (omega (arith, stage_columns, count)))))
       | inr apart ↦
           rw (ne_eqb (r / 64) at apart)
           (row_from_lanes after r (vector_of t r) (omega (arith, same_words)) (length-vector_of t r ∙ sym same_columns)
@@ -356,26 +302,17 @@ put_block_rows view t block_view block old new items words at is items_are old_i
           ∙ sym (get_or-vector_of t r c row (omega (arith, same_columns)))))
     ]
 
--- the rows of a tile of one word after the words at one place were taken
-pub take_block_rows : (view t from_view from : TileView) (buffer new items : List ℕ) (at : ℕ) → view ≡ t → items ≡ new →
-    from_view ≡ from → buffer ≡ from_view.buffer → t.words ≡ 1 → from.columns ≡ t.columns → at < from.words →
-    ((c : ℕ) → c < t.columns → get_or new c 0 ≡ get_or buffer (c * from_view.words + at) 0) →
-    (r : ℕ) → r < 64 → vector_of (record view { buffer = items }) r ≡ vector_of from (64 * at + r)
+-- the lanes of a stage after the words at one place were taken
+pub taken_lanes : (view t : TileView) (buffer new : List ℕ) (columns at : ℕ) → view ≡ t → buffer ≡ view.buffer → columns ≡ t.columns → at < t.words →
+    ((c r : ℕ) → c < columns → r < 64 → staged_at columns new c r ≡ is_set (get_or buffer (c * view.words + at) 0) r) →
+    (c r : ℕ) → c < columns → r < 64 → staged_at columns new c r ≡ get_or (vector_of t (64 * at + r)) c false
 unfolding lane_at
-take_block_rows view t from_view from buffer new items at is items_are from_is buffer_is single columns within taken r small =
-    let after : TileView = record view { buffer = items } in
-    let one : view.words ≡ 1 = ap (λ (x : TileView). x.words) is ∙ single in
-    let same_columns : view.columns ≡ t.columns = ap (λ (x : TileView). x.columns) is in
-    let row : 64 * at + r < 64 * from.words = omega arith in
+taken_lanes view t buffer new columns at is buffer_is count within taken c r c_small small =
     let word : (64 * at + r) / 64 ≡ at = omega arith in
     let place : (64 * at + r) % 64 ≡ r = omega arith in
-    row_from_lanes after r (vector_of from (64 * at + r)) (omega (arith, one)) (length-vector_of from (64 * at + r) ∙ columns ∙ sym same_columns)
-    (λ c c_small.
-    lane_at-one view.words items c r one (omega (arith, one))
-    ∙ ap (λ (l : List ℕ). is_set (get_or l c 0) r) items_are
-    ∙ ap (λ (n : ℕ). is_set n r) (taken c (omega (arith, same_columns)))
-    ∙ ap (λ (l : List ℕ). is_set (get_or l (c * from_view.words + at) 0) r) buffer_is
-    ∙ ap (λ (x : TileView). is_set (get_or x.buffer (c * x.words + at) 0) r) from_is
-    ∙ ap (λ (n : ℕ). is_set (get_or from.buffer (c * from.words + n) 0) r) (sym word)
-    ∙ ap (λ (n : ℕ). is_set (get_or from.buffer (c * from.words + (64 * at + r) / 64) 0) n) (sym place)
-    ∙ sym (get_or-vector_of from (64 * at + r) c row (omega (arith, same_columns))))
+    taken c r c_small small
+    ∙ ap (λ (l : List ℕ). is_set (get_or l (c * view.words + at) 0) r) buffer_is
+    ∙ ap (λ (x : TileView). is_set (get_or x.buffer (c * x.words + at) 0) r) is
+    ∙ ap (λ (n : ℕ). is_set (get_or t.buffer (c * t.words + n) 0) r) (sym word)
+    ∙ ap (λ (n : ℕ). is_set (get_or t.buffer (c * t.words + (64 * at + r) / 64) 0) n) (sym place)
+    ∙ sym (get_or-vector_of t (64 * at + r) c (omega arith) (omega (arith, count)))

@@ -5,7 +5,6 @@ ghost use Rattle.pim_io.specs.Bits.{digit_of};
 ghost use Rattle.pim_vectors.specs.inner.Cells.{lane_at};
 
 use crate::bits::{bit, digit, with_bit};
-use crate::blocks::{pack_bits, unpack_bits};
 
 /// Writes one lane of one column.
 fn put_bit(buffer: &mut [u64], words: usize, column: usize, index: usize, bit: bool)
@@ -29,32 +28,24 @@ pub(crate) fn put_column(buffer: &mut [u64], words: usize, column: usize, new: &
     buffer[start..start + words].copy_from_slice(new);
 }
 
-/// Writes the bits of a line of the characters `0` and `1` into one lane of each column: many at once where a column is one word.
+/// Writes the bits of a line of the characters `0` and `1` into one lane of each column.
 pub(crate) fn pack_lane(buffer: &mut [u64], words: usize, index: usize, line: &[u8])
     requires lane { index < 64 * words }
     requires whole { length line.now * words ≤ length buffer.old }
     ensures { (c r : ℕ) → r < 64 * words → lane_at words buffer.new c r
         ≡ (if nat_lt c (length line.now) && (r == index) then slice_index line.now c == 49 else lane_at words buffer.old c r) }
 {
-    if words == 1 {
-        pack_bits(buffer, index as u32, line);
-        return;
-    }
     for (column, byte) in line.iter().enumerate() {
         put_bit(buffer, words, column, index, *byte == b'1');
     }
 }
 
-/// Writes the characters of one lane of each column into a line: many at once where a column is one word.
+/// Writes the characters of one lane of each column into a line.
 pub(crate) fn unpack_lane(buffer: &[u64], words: usize, index: usize, line: &mut [u8])
     requires lane { index < 64 * words }
     requires whole { length line.old * words ≤ length buffer.now }
     ensures { line.new ≡ map (λ c. digit_of (lane_at words buffer.now c index)) (range_with_len 0 (length line.old)) }
 {
-    if words == 1 {
-        unpack_bits(buffer, index as u32, line);
-        return;
-    }
     for (column, byte) in line.iter_mut().enumerate() {
         let word = buffer[column * words + index / 64];
         *byte = digit(bit(word, (index % 64) as u32));

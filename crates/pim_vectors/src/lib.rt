@@ -4,6 +4,7 @@
 mod bits;
 mod blocks;
 mod bytes;
+mod eights;
 mod fault;
 mod fits;
 mod found;
@@ -11,6 +12,7 @@ mod lanes;
 mod limits;
 mod lines;
 mod sizes;
+mod stage;
 #[cfg(test)]
 mod tests;
 mod tile;
@@ -19,4 +21,5 @@ pub use fault::LinesFault;
 pub use fits::vector_fits;
 pub use limits::{MAX_LINES, MAX_WORDS};
 pub use lines::Lines;
+pub use stage::Stage;
 pub use tile::Tile;

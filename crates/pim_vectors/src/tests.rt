@@ -1,4 +1,4 @@
-use crate::{Lines, LinesFault, Tile, vector_fits};
+use crate::{Lines, LinesFault, Stage, Tile, vector_fits};
 use pim_io::{MemSource, ReadSource, Source};
 use std::process::Abort;
 use std::test::Fail;
@@ -89,7 +89,7 @@ fn a_vector_is_packed(rt: HostRuntime) -> Result<(), Fail> {
 
 #[test]
 fn rows_move_between_a_tile_and_a_stage(rt: HostRuntime) -> Result<(), Fail> {
-    let mut stage = Tile::new(rt.alloc(), 2, 1)?;
+    let mut stage = Stage::new(rt.alloc(), 2)?;
     stage.pack(3, b"11");
     stage.pack(3, b"01");
     stage.pack(63, b"10");

@@ -1,12 +1,15 @@
 ghost use Rattle.std.specs.Prelude.{◌≡◌, ℕ, ◌+◌, ◌*◌, ◌/◌, ◌%◌, ◌<◌, ◌≤◌, ◌==◌, if◌then◌else◌, false, List, length, replicate, slice_index_or, slice_set, IfOk};
 ghost use Rattle.pim_io.specs.Bits.{bits_of, line_of};
 ghost use Rattle.pim_io.specs.Lanes.{lane};
+ghost use Rattle.pim_vectors.specs.Stages.{staged};
 ghost use Rattle.pim_vectors.specs.Tiles.{column_of, with_column, vector_of, IsLane, IsVector, SameSizes};
+ghost use Rattle.pim_vectors.specs.inner.Cells.{staged_at};
 ghost use Rattle.pim_vectors.specs.inner.Kept.{IsTile};
 
 use crate::blocks::{put_words, take_words};
 use crate::lanes;
 use crate::limits::MAX_WORDS;
+use crate::stage::Stage;
 use pim_io::NoMemory;
 use std::alloc::Global;
 use std::marker::Model;
@@ -48,8 +51,8 @@ impl Tile {
         })
     }
 
-    /// Writes the bits of a line of the characters `0` and `1` into a lane. Linear in the line; the fastest where a column is one
-    /// word.
+    /// Writes the bits of a line of the characters `0` and `1` into a lane. Linear in the line; a stage does it for many places at
+    /// once.
     pub fn pack(&mut self, index: u32, line: &[u8])
         requires lane { IsLane self.old index }
         requires fits { IsVector self.old.columns line.now }
@@ -59,8 +62,8 @@ impl Tile {
         lanes::pack_lane(&mut self.buffer, self.words, index as usize, line);
     }
 
-    /// Writes the bits of a lane as the characters `0` and `1` into a line. Linear in the line; the fastest where a column is one
-    /// word.
+    /// Writes the bits of a lane as the characters `0` and `1` into a line. Linear in the line; a stage does it for many places at
+    /// once.
     pub fn unpack(&self, index: u32, line: &mut [u8])
         requires lane { IsLane self.now index }
         requires long { length line.old ≡ self.now.columns }
@@ -69,28 +72,27 @@ impl Tile {
         lanes::unpack_lane(&self.buffer, self.words, index as usize, line);
     }
 
-    /// Writes 64 lanes, those that stand in the same word of each column: the lanes of a tile of one word. Linear in the columns.
-    pub fn put_block(&mut self, at: usize, block: &Tile)
+    /// Writes 64 lanes, those that stand in the same word of each column: the lanes of a stage. Linear in the columns.
+    pub fn put_block(&mut self, at: usize, stage: &Stage)
         requires within { at < self.old.words }
-        requires single { block.now.words ≡ 1 }
-        requires columns { block.now.columns ≡ self.old.columns }
+        requires columns { stage.now.columns ≡ self.old.columns }
         ensures vectors { (r : ℕ) → IsLane self.old r
-            → vector_of self.new r ≡ (if r / 64 == at then vector_of block.now (r % 64) else vector_of self.old r) }
+            → vector_of self.new r ≡ (if r / 64 == at then staged stage.now (r % 64) else vector_of self.old r) }
         ensures sizes { SameSizes self.old self.new }
     {
-        put_words(&mut self.buffer, self.words, at, &block.buffer);
+        let columns = self.columns as usize;
+        put_words(&mut self.buffer, self.words, at, stage.bytes(), columns);
     }
 
-    /// Takes over 64 lanes of a tile, those that stand in the same word of each column, where this tile has one word. Linear in the
-    /// columns.
-    pub fn take_block(&mut self, from: &Tile, at: usize)
-        requires within { at < from.now.words }
-        requires single { self.old.words ≡ 1 }
-        requires columns { from.now.columns ≡ self.old.columns }
-        ensures vectors { (r : ℕ) → r < 64 → vector_of self.new r ≡ vector_of from.now (64 * at + r) }
-        ensures sizes { SameSizes self.old self.new }
+    /// Reads 64 lanes, those that stand in the same word of each column, into the bytes of a stage. Linear in the columns.
+    pub(crate) fn take_words(&self, at: usize, bytes: &mut [u8], columns: usize)
+        requires within { at < self.now.words }
+        requires columns { columns ≡ self.now.columns }
+        requires whole { length bytes.old ≡ 8 * columns }
+        ensures { (c r : ℕ) → c < columns → r < 64 → staged_at columns bytes.new c r
+            ≡ slice_index_or (vector_of self.now (64 * at + r)) c false }
     {
-        take_words(&from.buffer, from.words, at, &mut self.buffer);
+        take_words(&self.buffer, self.words, at, bytes, columns);
     }
 
     /// The words of a column.

@@ -8,7 +8,7 @@ use Rattle.clap.specs.Walk.{Text, first_of, is_empty, one_of, rows_of}
 use Rattle.clap.specs.declared.error.Error.{Error}
 use Rattle.clap.specs.declared.parser.matches.ArgMatches.{ArgMatches}
 use Rattle.clap.proofs.WalkLemmas.{both, first_value-rows, one_text-rows}
-use Rattle.pim_words.specs.Reading.{BuiltCommand, IsWithin, ReadsAlike, refuses}
+use Rattle.pim_words.specs.Reading.{KnownCommand, IsWithin, ReadsAlike, refuses}
 use Rattle.pim_words.specs.inner.Answer.{IsReading}
 use Rattle.pim_words.specs.Refusal.{IsFaultOf}
 use Rattle.pim_words.specs.declared.command.Command.{Command}
@@ -42,7 +42,7 @@ pub first_alike : (a b : App) (words : List Text) (m : ArgMatches) (id : Text) �
 first_alike a b words m id alike has = ap (first_of id) (sym (rows_alike a b words m alike has)) ∙ sym (first_value-rows (found_of m) id)
 
 -- an error of `clap` is an answer
-pub error_read : (b : BuiltCommand) (a : App) (words : List Text) (e : Error) (r : Result Command WordsFault) → ReadsAlike a b.line
+pub error_read : (b : KnownCommand) (a : App) (words : List Text) (e : Error) (r : Result Command WordsFault) → ReadsAlike a b.line
     → (is_simple_and_free a ≡ true → HasKind (fault_of a words) e) → IsErrAnd r (IsFaultOf e) → IsReading b words r
 error_read b a words e (Ok c) alike fails fault = absurd fault
 error_read b a words e (Err f) alike fails fault = record {
@@ -53,7 +53,7 @@ error_read b a words e (Err f) alike fails fault = record {
 }
 
 -- a fault that goes up is an answer
-pub fault_read : (b : BuiltCommand) (words : List Text) (fault : WordsFault) (r : Result Command WordsFault) → (fault ≡ Usage → refuses words b.line ≡ true)
+pub fault_read : (b : KnownCommand) (words : List Text) (fault : WordsFault) (r : Result Command WordsFault) → (fault ≡ Usage → refuses words b.line ≡ true)
     → IsErrAnd r (λ f. f ≡ fault) → IsReading b words r
 fault_read b words fault (Ok c) usage same = absurd same
 fault_read b words fault (Err f) usage same = record {
@@ -64,7 +64,7 @@ fault_read b words fault (Err f) usage same = record {
 }
 
 -- what the matches of `clap` say is an answer
-pub matches_read : (b : BuiltCommand) (a : App) (words : List Text) (c : Command) → ReadsAlike a b.line → (is_simple_and_free a ≡ true → fault_of a words ≡ [])
+pub matches_read : (b : KnownCommand) (a : App) (words : List Text) (c : Command) → ReadsAlike a b.line → (is_simple_and_free a ≡ true → fault_of a words ≡ [])
     → b.said (matches_of b.line words) ≡ Some c → IsWithin c → IsReading b words (Ok c)
 matches_read b a words c alike passes said within = record {
   usage = λ is. cc;

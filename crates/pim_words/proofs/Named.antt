@@ -6,7 +6,7 @@ use Rattle.clap.specs.Walk.{is_empty}
 use Rattle.clap.specs.Words.{App, Text, fault_of, matches_of, new_app}
 use Rattle.pim_words.specs.Lines.{cells_line, explain_line, fill_line}
 use Rattle.pim_words.specs.Program.{lacks_program, others, takes_program}
-use Rattle.pim_words.specs.Reading.{BuiltCommand, cli, command_said, is_usage, refuses, with_fill, without_options}
+use Rattle.pim_words.specs.Reading.{KnownCommand, cli, command_said, is_usage, refuses, with_fill, without_options}
 use Rattle.pim_words.specs.inner.Answer.{IsAnswer, IsReading}
 use Rattle.pim_words.specs.declared.command.Command.{Command}
 use Rattle.pim_words.specs.declared.command.FillWord.{FillWord}
@@ -29,7 +29,7 @@ explain_ignores = record { faults = λ a b words. refl; matches = λ a b words. 
 fill_ignores : (name : Text) → IgnoresFirst (fill_line name)
 fill_ignores name = record { faults = λ a b words. refl; matches = λ a b words. refl }
 
-module _ (b : BuiltCommand) (name : Text) (r : Result Command WordsFault) where
+module _ (b : KnownCommand) (name : Text) (r : Result Command WordsFault) where
   answer : (words read : List Text) → is_usage words ≡ refuses read b.line → command_said words ≡ b.said (matches_of b.line read) → IsReading b read r → IsAnswer words r
   answer words read refused said reading = record {
     usage = λ e. refused ∙ reading.usage e;
@@ -45,22 +45,22 @@ module _ (b : BuiltCommand) (name : Text) (r : Result Command WordsFault) where
       let words = name ∷ file ∷ rest in
       let without : others words ≡ name ∷ rest = ap (λ (t : Bool). if t then name ∷ rest else words) takes in
       answer words (file ∷ rest)
-      (ap (λ o. option_map_or (λ (c : BuiltCommand). refuses (others words) c.line) o true) is ∙ ap (λ ws. refuses ws b.line) without
+      (ap (λ o. option_map_or (λ (c : KnownCommand). refuses (others words) c.line) o true) is ∙ ap (λ ws. refuses ws b.line) without
       ∙ ap (λ k. not (is_empty k)) (ignores.faults name file rest))
-      (ap (option_and_then (λ (c : BuiltCommand). c.said (matches_of c.line (others words)))) is ∙ ap (λ ws. b.said (matches_of b.line ws)) without
+      (ap (option_and_then (λ (c : KnownCommand). c.said (matches_of c.line (others words)))) is ∙ ap (λ ws. b.said (matches_of b.line ws)) without
       ∙ ap b.said (ignores.matches name file rest)) reading
 
   without_file : (rest : List Text) → cli name ≡ Some b → takes_program name ≡ false → IsReading b (name ∷ rest) r → IsAnswer (name ∷ rest) r
   without_file [] is takes reading = answer (name ∷ []) (name ∷ [])
-      (ap (λ t. t || option_map_or (λ (c : BuiltCommand). refuses (name ∷ []) c.line) (cli name) true) takes
-      ∙ ap (λ o. option_map_or (λ (c : BuiltCommand). refuses (name ∷ []) c.line) o true) is)
-      (ap (option_and_then (λ (c : BuiltCommand). c.said (matches_of c.line (name ∷ [])))) is) reading
+      (ap (λ t. t || option_map_or (λ (c : KnownCommand). refuses (name ∷ []) c.line) (cli name) true) takes
+      ∙ ap (λ o. option_map_or (λ (c : KnownCommand). refuses (name ∷ []) c.line) o true) is)
+      (ap (option_and_then (λ (c : KnownCommand). c.said (matches_of c.line (name ∷ [])))) is) reading
   without_file (word ∷ rest) is takes reading =
       let words = name ∷ word ∷ rest in
       let whole : others words ≡ words = ap (λ (t : Bool). if t then name ∷ rest else words) takes in
       answer words words
-      (ap (λ o. option_map_or (λ (c : BuiltCommand). refuses (others words) c.line) o true) is ∙ ap (λ ws. refuses ws b.line) whole)
-      (ap (option_and_then (λ (c : BuiltCommand). c.said (matches_of c.line (others words)))) is ∙ ap (λ ws. b.said (matches_of b.line ws)) whole) reading
+      (ap (λ o. option_map_or (λ (c : KnownCommand). refuses (others words) c.line) o true) is ∙ ap (λ ws. refuses ws b.line) whole)
+      (ap (option_and_then (λ (c : KnownCommand). c.said (matches_of c.line (others words)))) is ∙ ap (λ ws. b.said (matches_of b.line ws)) whole) reading
 
 -- the words are those of this command
 abbrev pub IsOf : Text → List Text → Text → List Text → Type 0
@@ -71,7 +71,7 @@ module _ (name : Text) (words rest : List Text) (first : Text) (r : Result Comma
   begin = of.0 ∙ ap (λ n. n ∷ rest) of.1
 
   -- a command that has a file
-  pub filed : (b : BuiltCommand) → cli name ≡ Some b → takes_program name ≡ true → IgnoresFirst b.line → lacks_program words ≡ false → IsReading b rest r → IsAnswer words r
+  pub filed : (b : KnownCommand) → cli name ≡ Some b → takes_program name ≡ true → IgnoresFirst b.line → lacks_program words ≡ false → IsReading b rest r → IsAnswer words r
   filed b is takes ignores lacks reading =
       subst (λ ws. IsAnswer ws r) (sym begin) (with_file b name r rest is takes ignores (subst (λ ws. lacks_program ws ≡ false) begin lacks) reading)
 
@@ -86,6 +86,6 @@ module _ (name : Text) (words rest : List Text) (first : Text) (r : Result Comma
   fill_answer made is takes lacks reading = filed (with_fill name made) is takes (fill_ignores name) lacks reading
 
   -- a command without a file
-  pub input_answer : (b : BuiltCommand) → cli name ≡ Some b → takes_program name ≡ false → IsReading b words r → IsAnswer words r
+  pub input_answer : (b : KnownCommand) → cli name ≡ Some b → takes_program name ≡ false → IsReading b words r → IsAnswer words r
   input_answer b is takes reading =
       subst (λ ws. IsAnswer ws r) (sym begin) (without_file b name r rest is takes (subst (λ ws. IsReading b ws r) begin reading))

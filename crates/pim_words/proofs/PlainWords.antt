@@ -297,7 +297,7 @@ plain_taken (commands.Implyrun fill) words plain = fill_taken (codes "implyrun")
 plain_taken (commands.Share cells) words plain = subst (IsTaken (commands.Share cells)) (sym plain.1.1) (share_taken cells plain.1.0 plain.0)
 plain_taken (commands.Bench bits) words plain = subst (IsTaken (commands.Bench bits)) (sym plain.2) (bench_taken bits plain.0 plain.1)
 
--- so an answer to plain words is the command or a want of memory
+-- so an answer to plain words is the command or out of memory
 pub plain_answer : (r : Result Command WordsFault) (words : List Text) → (r ≡ Err Usage → is_usage words ≡ true)
     → IfOk r (λ x. command_said words ≡ Some x) → (c : Command) → IsPlain c words
     → MatchResult r (λ x. x ≡ c) (λ e. e ≡ NoMemory)

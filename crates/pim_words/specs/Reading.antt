@@ -66,56 +66,56 @@ abbrev pub tree_of : Option Text → Bool
 tree_of (Some text) = bytes_eq text (codes "true")
 tree_of None = false
 
--- a command that is built: its command line, and what the matches of that say
-pub record BuiltCommand : Type 0 where
+-- a command of `pim`: its command line, and what the matches of that say
+pub record KnownCommand : Type 0 where
   pub line : App
   pub said : List Row → Option Command
 
 -- the command of this name, which has no option
-abbrev pub without_options : Text → Command → BuiltCommand
+abbrev pub without_options : Text → Command → KnownCommand
 without_options name command = record { line = new_app name; said = λ _. Some command }
 
 -- the command of this name, whose one option is `--fill`
-abbrev pub with_fill : Text → (FillWord → Command) → BuiltCommand
+abbrev pub with_fill : Text → (FillWord → Command) → KnownCommand
 with_fill name command = record {
   line = fill_line name;
   said = λ rows. Some (command (fill_of (first_of (codes "fill") rows)));
 }
 
 -- the command of this name, whose one option is `--cells`
-abbrev pub with_cells : Text → (ℕ → Command) → BuiltCommand
+abbrev pub with_cells : Text → (ℕ → Command) → KnownCommand
 with_cells name command = record {
   line = cells_line name;
   said = λ rows. option_map command (cells_of rows);
 }
 
 -- `compile`
-abbrev pub compile_command : BuiltCommand
+abbrev pub compile_command : KnownCommand
 compile_command = record { line = compile_line; said = compile_said }
 
 -- `convert`
-abbrev pub convert_command : BuiltCommand
+abbrev pub convert_command : KnownCommand
 convert_command = record {
   line = convert_line;
   said = λ rows. Some (commands.Convert (form_of (first_of (codes "form") rows)));
 }
 
 -- `explain`
-abbrev pub explain_command : BuiltCommand
+abbrev pub explain_command : KnownCommand
 explain_command = record {
   line = explain_line;
   said = λ rows. Some (commands.Explain (tree_of (first_of (codes "tree") rows)));
 }
 
 -- `bench`
-abbrev pub bench_command : BuiltCommand
+abbrev pub bench_command : KnownCommand
 bench_command = record {
   line = bench_line;
   said = λ rows. option_map commands.Bench (option_map number_of (one_of (codes "bits") rows));
 }
 
--- the command of this name, where it is built
-abbrev pub cli : Text → Option BuiltCommand
+-- the command of `pim` that has this name
+abbrev pub cli : Text → Option KnownCommand
 cli name =
     if bytes_eq name (codes "compile") then Some compile_command
     else if bytes_eq name (codes "run") then Some (with_fill (codes "run") commands.Run)
@@ -132,7 +132,7 @@ cli name =
     else if bytes_eq name (codes "bench") then Some bench_command
     else None
 
--- there is no word, the command is not built, the file that it takes is missing, or its command
+-- there is no word, no command has that name, the file that it takes is missing, or its command
 -- line refuses the others
 abbrev pub is_usage : List Text → Bool
 is_usage [] = true
@@ -151,7 +151,7 @@ pub record ReadsAlike (a b : App) : Type 0 where
   pub faults : (words : List Text) → fault_of a words ≡ fault_of b words
   pub matches : (words : List Text) → matches_of a words ≡ matches_of b words
 
--- the first word names a command that is built
+-- the first word names a command of `pim`
 abbrev pub names_command : List Text → Bool
 names_command [] = false
 names_command (name ∷ rest) = is_some (cli name)

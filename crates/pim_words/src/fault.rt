@@ -6,7 +6,7 @@ use thiserror::Error;
 /// Why [`read`](crate::read) gives no command.
 #[derive(Debug, Drop, Error)]
 pub enum WordsFault {
-    /// There is no word, no such command is built, the file of a program is missing, or the other
+    /// There is no word, the first names no command, the file of a program is missing, or the other
     /// words are not words of the command.
     #[error("usage")]
     Usage,
@@ -26,7 +26,7 @@ impl From<AllocError> for WordsFault {
     }
 }
 
-/// Whether `clap` gave up for want of memory or refused the words.
+/// Whether `clap` ran out of memory or refused the words.
 impl From<clap::Error> for WordsFault {
     ghost use Rattle.pim_words.specs.Refusal.{IsFaultOf};
 

@@ -1,8 +1,7 @@
 //! The words of each command, read by `clap` into a [`Command`], and when they are refused.
 //!
 //! The first word is the command, and where that takes a program the second names its file. The
-//! others are read by one `clap` command of the name. The name of a command that is not built is
-//! refused as unknown.
+//! others are read by one `clap` command of the name. A name of no command is refused.
 #![tactic(auto)]
 
 mod cells;

@@ -21,11 +21,11 @@ use std::alloc::Global;
 /// Reads the words after the program's name: the name of a command, then the file of a program
 /// where the command takes one, and then its options.
 ///
-/// Words are refused exactly where there is none, where the first names no command that is built,
-/// where the file is missing, or where `clap` refuses the others for another cause than memory, a
-/// wish for help among these. The file is the second word, whatever it begins with, and `clap`
-/// does not read it. That memory was wanting is claimed nowhere: `NoMemory` may come wherever a
-/// command is named and has its file, where it takes one.
+/// Words are refused exactly where there is none, where the first names no command of `pim`, where
+/// the file is missing, or where `clap` refuses the others for another cause than memory, a wish
+/// for help among these. The file is the second word, whatever it begins with, and `clap` does not
+/// read it. `NoMemory` may come wherever a command is named and has its file, where it takes one:
+/// no clause says that memory had run out.
 #[tactic(auto, using(crate::proofs::PlainWords::plain_taken))]
 pub fn read(alloc: Global, words: &[String]) -> Result<Command, WordsFault>
     ensures usage { result ≡ Err WordsFault.Usage → is_usage (map string_bytes words.now) ≡ true }

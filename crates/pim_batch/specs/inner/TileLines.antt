@@ -2,6 +2,7 @@
 use Rattle.std.specs.Prelude.{◌≡◌, ◌≢◌, ℕ, ◌+◌, ◌*◌, ◌/◌, ◌%◌, ◌<◌, ◌++◌, ◌∷◌, [], List}
 use Rattle.std.specs.List.{flat_map, range_with_len}
 use Rattle.pim_io.specs.Bits.{line_of}
+use Rattle.pim_vectors.specs.Stages.{StageView, staged}
 use Rattle.pim_vectors.specs.Tiles.{TileView, vector_of}
 
 -- the vector in a lane of a tile as a line
@@ -16,8 +17,7 @@ row_lines_from t from count = flat_map (row_line t) (range_with_len from count)
 abbrev pub row_lines : TileView → ℕ → List ℕ
 row_lines t rows = row_lines_from t 0 rows
 
--- a stage of one word for lines of a tile: it holds the rows that share a word with this one, unless this is the first of them
-pub record IsStage (t stage : TileView) (index : ℕ) : Type 0 where
-  pub single : stage.words ≡ 1
+-- a stage for lines of a tile: it holds the rows that share a word with this one, unless this is the first of them
+pub record IsStage (t : TileView) (stage : StageView) (index : ℕ) : Type 0 where
   pub columns : stage.columns ≡ t.columns
-  pub held : index % 64 ≢ 0 → (r : ℕ) → r < 64 → vector_of stage r ≡ vector_of t (64 * (index / 64) + r)
+  pub held : index % 64 ≢ 0 → (r : ℕ) → r < 64 → staged stage r ≡ vector_of t (64 * (index / 64) + r)

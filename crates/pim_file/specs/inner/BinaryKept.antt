@@ -7,11 +7,10 @@ use Rattle.pim_isa.specs.declared.instr.Instr.{Instr}
 use Rattle.pim_isa.specs.Programs.{ProgramView}
 use Rattle.pim_file.specs.declared.fault.FileFault.{FileFault}
 use Rattle.pim_file.specs.declared.fault.FileFault.TheVariants as faults
-use Rattle.pim_file.specs.Reading.{begun}
+use Rattle.pim_file.specs.inner.Kept.{begun, within_limit}
 use Rattle.pim_file.specs.ProgramFile.{validated}
 use Rattle.pim_file.specs.Items.{Cursor, number_at, counted}
 use Rattle.pim_file.specs.BinaryReading.{target_at, port_at, instr_at, closed_at}
-use Rattle.pim_file.specs.inner.Kept.{within_limit}
 
 -- a draft with these further inputs
 abbrev pub with_inputs : Option ProgramView → List Port → Option ProgramView

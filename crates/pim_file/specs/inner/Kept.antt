@@ -1,20 +1,30 @@
--- Inner: the draft that is kept while a file is read.
-use Rattle.std.specs.Prelude.{nat_lt, if◌then◌else◌, ◌+◌, ◌≤◌, List, ℕ, length, Option, Some, None, Result}
-use Rattle.pim_io.specs.Lines.{lines}
-use Rattle.pim_io.specs.Readings.{◌>>=◌}
-use Rattle.pim_isa.specs.declared.draft.TheConstants.{MAX_CELLS, MAX_PORTS, MAX_INSTRS}
+-- Inner: the draft that is kept while a binary file is read.
+use Rattle.std.specs.Prelude.{nat_lt, if◌then◌else◌, ◌+◌, ◌≤◌, ℕ, [], ◌∷◌, ◌++◌, length, Option, Some, None, option_map}
 use Rattle.pim_isa.specs.Programs.{ProgramView}
-use Rattle.pim_file.specs.declared.fault.FileFault.{FileFault}
-use Rattle.pim_file.specs.Reading.{start}
-use Rattle.pim_file.specs.ProgramFile.{read_from, validated}
+use Rattle.pim_isa.specs.declared.draft.TheConstants.{MAX_CELLS, MAX_PORTS, MAX_INSTRS}
+use Rattle.pim_isa.specs.declared.instr.Instr.{Instr}
+use Rattle.pim_isa.specs.declared.port.Port.{Port}
+use Rattle.pim_isa.specs.declared.target.Target.{Target}
+
+-- a draft without ports and instructions
+abbrev pub begun : Target → ℕ → ProgramView
+begun target cells = record { target = target; cells = cells; inputs = []; outputs = []; instrs = [] }
+
+-- a draft with one more input
+abbrev pub with_input : Option ProgramView → Port → Option ProgramView
+with_input draft port = option_map {T = ProgramView} (λ d. record d { inputs = d.inputs ++ port ∷ [] }) draft
+
+-- a draft with one more output
+abbrev pub with_output : Option ProgramView → Port → Option ProgramView
+with_output draft port = option_map {T = ProgramView} (λ d. record d { outputs = d.outputs ++ port ∷ [] }) draft
+
+-- a draft with one more instruction
+abbrev pub with_instr : Option ProgramView → Instr → Option ProgramView
+with_instr draft instr = option_map {T = ProgramView} (λ d. record d { instrs = d.instrs ++ instr ∷ [] }) draft
 
 -- a draft of at most as many cells as a program may have
 abbrev pub within_limit : ProgramView → Option ProgramView
 within_limit draft = if nat_lt MAX_CELLS draft.cells then None else Some draft
-
--- the program that a file is the text of, where a draft that is too large is dropped when it begins
-abbrev pub program_within_limit : List ℕ → Result ProgramView FileFault
-program_within_limit bytes = read_from within_limit start (lines bytes) >>= validated
 
 -- a draft of no more ports and instructions than a program may have
 pub record HasFewParts (draft : ProgramView) : Type 0 where

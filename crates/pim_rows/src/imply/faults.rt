@@ -1,6 +1,6 @@
 //! Files and vectors that are refused.
-use super::{IMPLIED_AND, implyrun};
-use crate::case::{AND_PROGRAM, Case, check, stops};
+use super::{IMPLIED_AND, ONES, ZEROS};
+use crate::case::{AND_PROGRAM, Case, call_within, check, stops};
 use crate::run::repeated;
 use pim_top::Status;
 use std::test::Fail;
@@ -32,7 +32,7 @@ fn files_are_judged(rt: HostRuntime) -> Result<(), Fail> {
         ),
     ];
     for (file, detail) in cases {
-        let ending = implyrun(alloc, "zeros", file, b"x\n", 64)?;
+        let ending = call_within(alloc, ZEROS, file, b"x\n", 64)?;
         let text = format!(in alloc; "bad input: {detail}")?;
         stops(&rt, alloc, &ending, Status::BadInput, b"", &text)?;
     }
@@ -43,7 +43,7 @@ fn files_are_judged(rt: HostRuntime) -> Result<(), Fail> {
 fn a_program_has_too_many_cells(rt: HostRuntime) -> Result<(), Fail> {
     let alloc = rt.alloc();
     let file = b"imply 1\ncells 1048577\ncycles 0\nend\n";
-    let ending = implyrun(alloc, "zeros", file, b"", 64)?;
+    let ending = call_within(alloc, ZEROS, file, b"", 64)?;
     let text = "too large: cells";
     stops(&rt, alloc, &ending, Status::TooLarge, b"", text)
 }
@@ -55,11 +55,11 @@ fn a_line_is_no_vector(rt: HostRuntime) -> Result<(), Fail> {
     let mut vectors = repeated(alloc, b"11\n", 4_099)?;
     vectors.extend_from_slice(b"1\n")?;
     let results = repeated(alloc, b"1\n", 4_096)?;
-    let ending = implyrun(alloc, "zeros", IMPLIED_AND, &vectors, 9_000)?;
+    let ending = call_within(alloc, ZEROS, IMPLIED_AND, &vectors, 9_000)?;
     let text = "bad input: vector line 4100";
     stops(&rt, alloc, &ending, Status::BadInput, &results, text)?;
     for vectors in [b"11\n012\n".as_slice(), b"11\n2\n"] {
-        let ending = implyrun(alloc, "ones", IMPLIED_AND, vectors, 64)?;
+        let ending = call_within(alloc, ONES, IMPLIED_AND, vectors, 64)?;
         let text = "bad input: vector line 2";
         stops(&rt, alloc, &ending, Status::BadInput, b"", text)?;
     }

@@ -1,6 +1,6 @@
 //! Sources and sinks that fail.
-use super::{IMPLIED_AND, implyrun_over};
-use crate::case::{AND_NETLIST, call_over, stops};
+use super::{IMPLIED_AND, ZEROS};
+use crate::case::{AND_NETLIST, call_from, stops};
 use crate::run::repeated;
 use pim_io::{MemSink, MemSource, SliceSource};
 use pim_top::Status;
@@ -14,7 +14,7 @@ fn a_program_is_not_read(rt: HostRuntime) -> Result<(), Fail> {
         let mut program = MemSource::new(alloc, IMPLIED_AND, 1, &[k])?;
         let mut vectors = SliceSource::new(b"x\n");
         let mut output = MemSink::new(alloc, 4_096, 4_096, &[])?;
-        let ending = implyrun_over(alloc, "zeros", &mut program, &mut vectors, &mut output)?;
+        let ending = call_from(alloc, ZEROS, &mut program, &mut vectors, &mut output)?;
         let text = "read fault: program";
         stops(&rt, alloc, &ending, Status::ReadFault, b"", text)?;
     }
@@ -30,7 +30,7 @@ fn vectors_are_not_read(rt: HostRuntime) -> Result<(), Fail> {
         let mut program = SliceSource::new(IMPLIED_AND);
         let mut vectors = MemSource::new(alloc, bytes, 1, &[k])?;
         let mut output = MemSink::new(alloc, 4_096, 4_096, &[])?;
-        let ending = implyrun_over(alloc, "zeros", &mut program, &mut vectors, &mut output)?;
+        let ending = call_from(alloc, ZEROS, &mut program, &mut vectors, &mut output)?;
         let text = "read fault: input";
         stops(&rt, alloc, &ending, Status::ReadFault, b"", text)?;
     }
@@ -46,7 +46,7 @@ fn a_tile_is_written_before_a_fault(rt: HostRuntime) -> Result<(), Fail> {
     let mut program = SliceSource::new(IMPLIED_AND);
     let mut vectors = MemSource::new(alloc, &bytes, 1, &[12_291])?;
     let mut output = MemSink::new(alloc, 9_000, 4_096, &[])?;
-    let ending = implyrun_over(alloc, "zeros", &mut program, &mut vectors, &mut output)?;
+    let ending = call_from(alloc, ZEROS, &mut program, &mut vectors, &mut output)?;
     let text = "read fault: input";
     stops(&rt, alloc, &ending, Status::ReadFault, &results, text)
 }
@@ -59,15 +59,8 @@ fn a_netlist_is_not_read(rt: HostRuntime) -> Result<(), Fail> {
         let mut program = SliceSource::new(b"");
         let mut input = MemSource::new(alloc, AND_NETLIST, 1, &[k])?;
         let mut output = MemSink::new(alloc, 4_096, 4_096, &[])?;
-        let mut notes = MemSink::new(alloc, 4_096, 4_096, &[])?;
-        let ending = call_over(
-            alloc,
-            &["imply", "--cells", "4"],
-            &mut program,
-            &mut input,
-            &mut output,
-            &mut notes,
-        )?;
+        let words = ["imply", "--cells", "4"];
+        let ending = call_from(alloc, &words, &mut program, &mut input, &mut output)?;
         let text = "read fault: input";
         stops(&rt, alloc, &ending, Status::ReadFault, b"", text)?;
     }
@@ -84,7 +77,7 @@ fn a_failing_write_leaves_a_front(rt: HostRuntime) -> Result<(), Fail> {
         let mut program = SliceSource::new(IMPLIED_AND);
         let mut vectors = SliceSource::new(b"00\n01\n10\n11\n");
         let mut output = MemSink::new(alloc, 4_096, 1, &[k as u64])?;
-        let ending = implyrun_over(alloc, "zeros", &mut program, &mut vectors, &mut output)?;
+        let ending = call_from(alloc, ZEROS, &mut program, &mut vectors, &mut output)?;
         let text = "write fault";
         stops(&rt, alloc, &ending, Status::WriteFault, front, text)?;
     }

@@ -1,6 +1,6 @@
 //! Netlists that become programs, and programs on vectors.
-use super::{IMPLIED_AND, IMPLIED_XOR, implyrun};
-use crate::case::{AND_NETLIST, Case, XOR, call, check, gives};
+use super::{IMPLIED_AND, IMPLIED_XOR, ONES, ZEROS};
+use crate::case::{AND_NETLIST, Case, XOR, call, call_within, check, gives};
 use crate::run::repeated;
 use pim_top::Status;
 use std::test::Fail;
@@ -62,10 +62,10 @@ fn cells_are_too_few(rt: HostRuntime) -> Result<(), Fail> {
 #[test]
 fn programs_are_run(rt: HostRuntime) -> Result<(), Fail> {
     let alloc = rt.alloc();
-    for filling in ["zeros", "ones"] {
-        let ending = implyrun(alloc, filling, IMPLIED_XOR, b"00\n01\n10\n11\n", 64)?;
+    for words in [ZEROS, ONES] {
+        let ending = call_within(alloc, words, IMPLIED_XOR, b"00\n01\n10\n11\n", 64)?;
         gives(&rt, &ending, b"0\n1\n1\n0\n");
-        let ending = implyrun(alloc, filling, IMPLIED_AND, b"00\r\n01\n10\n11", 64)?;
+        let ending = call_within(alloc, words, IMPLIED_AND, b"00\r\n01\n10\n11", 64)?;
         gives(&rt, &ending, b"0\n0\n0\n1\n");
     }
     Ok(())
@@ -76,9 +76,9 @@ fn programs_are_run(rt: HostRuntime) -> Result<(), Fail> {
 fn a_filling_is_seen(rt: HostRuntime) -> Result<(), Fail> {
     let alloc = rt.alloc();
     let program = b"imply 1\ncells 2\ninput 0 a\noutput 1 f\noutput 0 g\ncycles 0\nend\n";
-    let ending = implyrun(alloc, "zeros", program, b"1\n", 64)?;
+    let ending = call_within(alloc, ZEROS, program, b"1\n", 64)?;
     gives(&rt, &ending, b"01\n");
-    let ending = implyrun(alloc, "ones", program, b"0\n", 64)?;
+    let ending = call_within(alloc, ONES, program, b"0\n", 64)?;
     gives(&rt, &ending, b"10\n");
     Ok(())
 }
@@ -89,7 +89,7 @@ fn any_number_of_rows(rt: HostRuntime) -> Result<(), Fail> {
     for rows in [0, 1, 63, 64, 65, 4_097] {
         let vectors = repeated(alloc, b"11\n", rows)?;
         let results = repeated(alloc, b"1\n", rows)?;
-        let ending = implyrun(alloc, "zeros", IMPLIED_AND, &vectors, 9_000)?;
+        let ending = call_within(alloc, ZEROS, IMPLIED_AND, &vectors, 9_000)?;
         gives(&rt, &ending, &results);
     }
     Ok(())

@@ -1,6 +1,6 @@
 //! Bytes that are refused.
-use super::{BINARY, call_on};
-use crate::case::{AND_PROGRAM, stops};
+use super::BINARY;
+use crate::case::{AND_PROGRAM, call_on, stops};
 use pim_top::Status;
 use std::test::Fail;
 

@@ -1,6 +1,6 @@
 //! Sources and sinks that fail.
-use super::{BINARY, LISTING, LIVES, call_from};
-use crate::case::{AND_PROGRAM, stops};
+use super::{BINARY, LISTING, LIVES};
+use crate::case::{AND_PROGRAM, call_from, stops};
 use pim_io::{MemSink, MemSource, SliceSource};
 use pim_top::Status;
 use std::test::Fail;

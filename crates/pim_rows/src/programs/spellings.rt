@@ -1,6 +1,6 @@
 //! One program in all its spellings.
-use super::{BINARY, LISTING, LIVES, call_on};
-use crate::case::{AND_PROGRAM, gives};
+use super::{BINARY, LISTING, LIVES};
+use crate::case::{AND_PROGRAM, call_on, gives};
 use std::test::Fail;
 
 #[test]

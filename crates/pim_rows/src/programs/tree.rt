@@ -1,6 +1,6 @@
 //! `explain --tree`: the line on the graph of a program's NORs.
-use super::{BINARY, LIVES, call_on};
-use crate::case::{AND_PROGRAM, XOR_PROGRAM, gives, stops};
+use super::{BINARY, LIVES};
+use crate::case::{AND_PROGRAM, XOR_PROGRAM, call_on, gives, stops};
 use pim_top::Status;
 use std::test::Fail;
 

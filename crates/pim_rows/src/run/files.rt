@@ -1,6 +1,6 @@
 //! Program files that `run` refuses, and files of many cells.
-use super::{and_file, run_on};
-use crate::case::{AND_PROGRAM, gives, stops};
+use super::{ZEROS, and_file};
+use crate::case::{AND_PROGRAM, call_within, gives, stops};
 use pim_top::Status;
 use std::test::Fail;
 
@@ -21,7 +21,7 @@ fn files_are_judged(rt: HostRuntime) -> Result<(), Fail> {
     for (cells, last, detail) in cases {
         let file = and_file(alloc, cells, last)?;
         let text = format!(in alloc; "bad input: program {detail}")?;
-        let ending = run_on(alloc, "zeros", file.as_bytes(), b"", 64)?;
+        let ending = call_within(alloc, ZEROS, file.as_bytes(), b"", 64)?;
         stops(&rt, alloc, &ending, Status::BadInput, b"", &text)?;
     }
     Ok(())
@@ -33,7 +33,7 @@ fn cut_files_are_truncated(rt: HostRuntime) -> Result<(), Fail> {
     let alloc = rt.alloc();
     for len in 0..AND_PROGRAM.len() {
         let cut = AND_PROGRAM.get(..len).ok_or("a shorter file")?;
-        let ending = run_on(alloc, "zeros", cut, b"11\n", 64)?;
+        let ending = call_within(alloc, ZEROS, cut, b"11\n", 64)?;
         let text = "bad input: program truncated";
         stops(&rt, alloc, &ending, Status::BadInput, b"", text)?;
     }
@@ -44,13 +44,13 @@ fn cut_files_are_truncated(rt: HostRuntime) -> Result<(), Fail> {
 fn the_cells_are_limited(rt: HostRuntime) -> Result<(), Fail> {
     let alloc = rt.alloc();
     let wide = and_file(alloc, "65537", "nor 4 2 3")?;
-    let ending = run_on(alloc, "zeros", wide.as_bytes(), b"", 64)?;
+    let ending = call_within(alloc, ZEROS, wide.as_bytes(), b"", 64)?;
     gives(&rt, &ending, b"");
     let widest = and_file(alloc, "1048576", "nor 4 2 3")?;
-    let ending = run_on(alloc, "zeros", widest.as_bytes(), b"11\n", 64)?;
+    let ending = call_within(alloc, ZEROS, widest.as_bytes(), b"11\n", 64)?;
     gives(&rt, &ending, b"1\n");
     let wider = and_file(alloc, "1048577", "nor 4 2 3")?;
-    let ending = run_on(alloc, "zeros", wider.as_bytes(), b"11\n", 64)?;
+    let ending = call_within(alloc, ZEROS, wider.as_bytes(), b"11\n", 64)?;
     let text = "too large: cells";
     stops(&rt, alloc, &ending, Status::TooLarge, b"", text)
 }

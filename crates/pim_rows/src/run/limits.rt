@@ -1,6 +1,6 @@
 //! Limits of bytes, over sources that hold one piece alone, and tiles of programs with many outputs.
-use super::{repeated, run_on, run_over};
-use crate::case::stops;
+use super::{ZEROS, repeated};
+use crate::case::{call_from, call_within, stops};
 use pim_io::{MemSink, SliceSource, Source, SourceFault};
 use pim_top::Status;
 use std::alloc::Global;
@@ -72,7 +72,7 @@ fn the_bytes_of_vectors_are_limited(rt: HostRuntime) -> Result<(), Fail> {
             count,
         };
         let mut output = MemSink::new(alloc, 2_100_000, 65_536, &[])?;
-        let ending = run_over(alloc, "zeros", &mut program, &mut vectors, &mut output)?;
+        let ending = call_from(alloc, ZEROS, &mut program, &mut vectors, &mut output)?;
         stops(&rt, alloc, &ending, status, &results, text)?;
     }
     Ok(())
@@ -90,7 +90,7 @@ fn the_bytes_of_a_program_are_limited(rt: HostRuntime) -> Result<(), Fail> {
     };
     let mut vectors = SliceSource::new(b"11\n");
     let mut output = MemSink::new(alloc, 64, 64, &[])?;
-    let ending = run_over(alloc, "zeros", &mut program, &mut vectors, &mut output)?;
+    let ending = call_from(alloc, ZEROS, &mut program, &mut vectors, &mut output)?;
     let text = "too large: bytes";
     stops(&rt, alloc, &ending, Status::TooLarge, b"", text)
 }
@@ -116,7 +116,7 @@ fn many_outputs_make_small_tiles(rt: HostRuntime) -> Result<(), Fail> {
         let mut line = vec![in alloc; b'1'; outputs]?;
         line.push(b'\n')?;
         let results = repeated(alloc, &line, written)?;
-        let ending = run_on(alloc, "zeros", &program, &vectors, 17_000_000)?;
+        let ending = call_within(alloc, ZEROS, &program, &vectors, 17_000_000)?;
         let text = "bad input: vector line 257";
         stops(&rt, alloc, &ending, Status::BadInput, &results, text)?;
     }

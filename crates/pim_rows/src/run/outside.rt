@@ -1,6 +1,6 @@
 //! Runs whose sources and sinks fail.
-use super::{repeated, run_on, run_over};
-use crate::case::{AND_PROGRAM, stops};
+use super::{ONES, ZEROS, repeated};
+use crate::case::{AND_PROGRAM, call_from, call_within, stops};
 use pim_io::{MemSink, MemSource, SliceSource};
 use pim_top::Status;
 use std::test::Fail;
@@ -12,7 +12,7 @@ fn a_program_is_not_read(rt: HostRuntime) -> Result<(), Fail> {
         let mut program = MemSource::new(alloc, AND_PROGRAM, 1, &[k])?;
         let mut vectors = SliceSource::new(b"11\n");
         let mut output = MemSink::new(alloc, 64, 64, &[])?;
-        let ending = run_over(alloc, "zeros", &mut program, &mut vectors, &mut output)?;
+        let ending = call_from(alloc, ZEROS, &mut program, &mut vectors, &mut output)?;
         let text = "read fault: program";
         stops(&rt, alloc, &ending, Status::ReadFault, b"", text)?;
     }
@@ -34,7 +34,7 @@ fn a_vector_is_not_read(rt: HostRuntime) -> Result<(), Fail> {
         let mut program = SliceSource::new(AND_PROGRAM);
         let mut vectors = MemSource::new(alloc, &all, 1, &[call])?;
         let mut output = MemSink::new(alloc, 9_000, 4_096, &[])?;
-        let ending = run_over(alloc, "zeros", &mut program, &mut vectors, &mut output)?;
+        let ending = call_from(alloc, ZEROS, &mut program, &mut vectors, &mut output)?;
         let results = repeated(alloc, b"1\n", written)?;
         let text = "read fault: input";
         stops(&rt, alloc, &ending, Status::ReadFault, &results, text)?;
@@ -53,7 +53,7 @@ fn a_failing_write_leaves_a_prefix(rt: HostRuntime) -> Result<(), Fail> {
             let mut program = SliceSource::new(AND_PROGRAM);
             let mut vectors = SliceSource::new(b"00\n01\n11\n");
             let mut output = MemSink::new(alloc, room, 1, &[failing])?;
-            let ending = run_over(alloc, "ones", &mut program, &mut vectors, &mut output)?;
+            let ending = call_from(alloc, ONES, &mut program, &mut vectors, &mut output)?;
             let text = "write fault";
             stops(&rt, alloc, &ending, Status::WriteFault, front, text)?;
         }
@@ -67,7 +67,7 @@ fn a_second_tile_is_not_written(rt: HostRuntime) -> Result<(), Fail> {
     let alloc = rt.alloc();
     let vectors = repeated(alloc, b"11\n", 4_097)?;
     let results = repeated(alloc, b"1\n", 4_096)?;
-    let ending = run_on(alloc, "zeros", AND_PROGRAM, &vectors, 8_192)?;
+    let ending = call_within(alloc, ZEROS, AND_PROGRAM, &vectors, 8_192)?;
     let text = "write fault";
     stops(&rt, alloc, &ending, Status::WriteFault, &results, text)
 }

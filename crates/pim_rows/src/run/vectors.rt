@@ -1,16 +1,12 @@
 //! What programs give for vectors, and lines that are no vectors.
-use super::{FILLINGS, and_file, repeated, run_on};
-use crate::case::{AND_PROGRAM, gives, stops};
+use super::{ONES, ZEROS, and_file, repeated};
+use crate::case::{AND_PROGRAM, PLIM_AND, call_within, gives, stops};
 use pim_top::Status;
 use std::test::Fail;
 
 /// A cover that says where the output is zero: at the first bit without the last, and at the last two.
 const OFF_SET: &[u8] =
     b"pim 1\ntarget magic\ncells 6\ninput 0 a\ninput 1 b\ninput 2 c\noutput 3 f\ncycles 9\ninit 3 4 5\nnot 3 1\nnot 4 2\nnor 5 3 4\ninit 3 4\nnot 3 0\nnor 4 3 2\ninit 3\nnor 3 4 5\nend\n";
-
-/// A two-input AND for the other machine.
-const PLIM_AND: &[u8] =
-    b"pim 1\ntarget plim\ncells 3\ninput 0 i0\ninput 1 i1\noutput 2 o0\ncycles 3\nrm3 #0 #1 @2\nrm3 @1 #0 @2\nrm3 @0 #1 @2\nend\n";
 
 /// A full adder by NOR gates of up to four operands.
 const FULL_ADDER: &[u8] =
@@ -46,8 +42,8 @@ fn programs_give_results(rt: HostRuntime) -> Result<(), Fail> {
         (AND_PROGRAM, b"", b""),
     ];
     for (program, vectors, results) in cases {
-        for filling in FILLINGS {
-            let ending = run_on(rt.alloc(), filling, program, vectors, 64)?;
+        for words in [ZEROS, ONES] {
+            let ending = call_within(rt.alloc(), words, program, vectors, 64)?;
             gives(&rt, &ending, results);
         }
     }
@@ -56,9 +52,9 @@ fn programs_give_results(rt: HostRuntime) -> Result<(), Fail> {
 
 #[test]
 fn cells_that_are_no_inputs_are_filled(rt: HostRuntime) -> Result<(), Fail> {
-    let zeros = run_on(rt.alloc(), "zeros", UNSET, b"\n\n", 64)?;
+    let zeros = call_within(rt.alloc(), ZEROS, UNSET, b"\n\n", 64)?;
     gives(&rt, &zeros, b"0\n0\n");
-    let ones = run_on(rt.alloc(), "ones", UNSET, b"\n\n", 64)?;
+    let ones = call_within(rt.alloc(), ONES, UNSET, b"\n\n", 64)?;
     gives(&rt, &ones, b"1\n1\n");
     Ok(())
 }
@@ -72,8 +68,8 @@ fn each_row_has_its_result(rt: HostRuntime) -> Result<(), Fail> {
     for rows in [0, 1, 63, 64, 65, 4_095, 4_096, 4_097usize] {
         let first = vectors.get(..3 * rows).ok_or("too few vectors")?;
         let wanted = results.get(..2 * rows).ok_or("too few results")?;
-        for filling in FILLINGS {
-            let ending = run_on(alloc, filling, AND_PROGRAM, first, 9_000)?;
+        for words in [ZEROS, ONES] {
+            let ending = call_within(alloc, words, AND_PROGRAM, first, 9_000)?;
             gives(&rt, &ending, wanted);
         }
     }
@@ -93,7 +89,7 @@ fn lines_that_are_no_vectors(rt: HostRuntime) -> Result<(), Fail> {
         (ONE, b"\n1\n", "bad input: vector line 2"),
     ];
     for (program, vectors, text) in cases {
-        let ending = run_on(alloc, "zeros", program, vectors, 64)?;
+        let ending = call_within(alloc, ZEROS, program, vectors, 64)?;
         stops(&rt, alloc, &ending, Status::BadInput, b"", text)?;
     }
     Ok(())
@@ -106,7 +102,7 @@ fn a_line_is_too_long(rt: HostRuntime) -> Result<(), Fail> {
     let long = vec![in alloc; b'1'; 300]?;
     vectors.extend_from_slice(&long)?;
     vectors.push(b'\n')?;
-    let ending = run_on(alloc, "zeros", AND_PROGRAM, &vectors, 64)?;
+    let ending = call_within(alloc, ZEROS, AND_PROGRAM, &vectors, 64)?;
     let text = "bad input: vector line 2";
     stops(&rt, alloc, &ending, Status::BadInput, b"", text)
 }
@@ -124,7 +120,7 @@ fn a_wrong_line_leaves_full_tiles(rt: HostRuntime) -> Result<(), Fail> {
         let mut vectors = repeated(alloc, b"11\n", good)?;
         vectors.extend_from_slice(b"1\n")?;
         let results = repeated(alloc, b"1\n", written)?;
-        let ending = run_on(alloc, "zeros", program, &vectors, 9_000)?;
+        let ending = call_within(alloc, ZEROS, program, &vectors, 9_000)?;
         stops(&rt, alloc, &ending, Status::BadInput, &results, text)?;
     }
     Ok(())
@@ -139,7 +135,7 @@ fn the_rows_are_limited(rt: HostRuntime) -> Result<(), Fail> {
     vectors.extend_from_slice(b"11\n")?;
     let tile = repeated(alloc, b"1\n", 4_096)?;
     let results = repeated(alloc, &tile, 256)?;
-    let ending = run_on(alloc, "zeros", AND_PROGRAM, &vectors, 2_100_000)?;
+    let ending = call_within(alloc, ZEROS, AND_PROGRAM, &vectors, 2_100_000)?;
     let text = "too large: rows";
     stops(&rt, alloc, &ending, Status::TooLarge, &results, text)
 }

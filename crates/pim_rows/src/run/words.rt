@@ -1,25 +1,7 @@
 //! Words of `run`.
-use crate::case::{AND_PROGRAM, Ending, call_over, gives, stops};
-use pim_io::{MemSink, SliceSource};
+use crate::case::{AND_PROGRAM, call_on, gives, stops};
 use pim_top::Status;
-use std::alloc::Global;
 use std::test::Fail;
-
-/// Calls the tool with these words, the program of an AND and one vector.
-fn run_by(alloc: Global, words: &[&str]) -> Result<Ending, Fail> {
-    let mut program = SliceSource::new(AND_PROGRAM);
-    let mut vectors = SliceSource::new(b"11\n");
-    let mut output = MemSink::new(alloc, 64, 64, &[])?;
-    let mut notes = MemSink::new(alloc, 64, 64, &[])?;
-    call_over(
-        alloc,
-        words,
-        &mut program,
-        &mut vectors,
-        &mut output,
-        &mut notes,
-    )
-}
 
 #[test]
 fn words_are_judged(rt: HostRuntime) -> Result<(), Fail> {
@@ -32,10 +14,10 @@ fn words_are_judged(rt: HostRuntime) -> Result<(), Fail> {
         &["run", "p", "--help"],
     ];
     for words in refused {
-        let ending = run_by(alloc, words)?;
+        let ending = call_on(alloc, words, AND_PROGRAM, b"11\n")?;
         stops(&rt, alloc, &ending, Status::Usage, b"", "usage")?;
     }
-    let ending = run_by(alloc, &["run", "--help"])?;
+    let ending = call_on(alloc, &["run", "--help"], AND_PROGRAM, b"11\n")?;
     gives(&rt, &ending, b"1\n");
     Ok(())
 }

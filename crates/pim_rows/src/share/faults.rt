@@ -1,6 +1,6 @@
 //! Files and turns that are refused.
-use super::{IN_TURNS, PLIM_AND, behind_an_and, share};
-use crate::case::{AND_PROGRAM, stops};
+use super::{IN_TURNS, behind_an_and, share};
+use crate::case::{AND_PROGRAM, PLIM_AND, stops};
 use pim_top::Status;
 use std::alloc::Global;
 use std::process::Abort;

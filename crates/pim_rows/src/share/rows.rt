@@ -1,7 +1,7 @@
 //! Programs that share a row.
 use super::{IN_TURNS, TWO_ANDS, behind_an_and, share};
-use crate::case::{AND_PROGRAM, gives, stops};
-use crate::run::run_on;
+use crate::case::{AND_PROGRAM, call_on, gives, stops};
+use crate::run::{ONES, ZEROS};
 use pim_top::Status;
 use std::test::Fail;
 
@@ -28,8 +28,8 @@ fn one_program_has_all_turns(rt: HostRuntime) -> Result<(), Fail> {
 #[test]
 fn the_shared_row_is_run(rt: HostRuntime) -> Result<(), Fail> {
     let alloc = rt.alloc();
-    for filling in ["zeros", "ones"] {
-        let ending = run_on(alloc, filling, TWO_ANDS, b"1101\n0111\n1111\n1000\n", 64)?;
+    for words in [ZEROS, ONES] {
+        let ending = call_on(alloc, words, TWO_ANDS, b"1101\n0111\n1111\n1000\n")?;
         gives(&rt, &ending, b"10\n01\n11\n00\n");
     }
     Ok(())

@@ -2,6 +2,7 @@
 use Rattle.std.specs.Prelude.{◌≡◌, ℕ, ◌+◌, ◌-◌, ◌*◌, ◌<◌, ◌≤◌, length}
 use Rattle.pim_io.specs.declared.limits.TheConstants.{MAX_INPUT}
 use Rattle.pim_vectors.specs.declared.limits.TheConstants.{MAX_LINES, MAX_WORDS}
+use Rattle.pim_vectors.specs.Stages.{StageView}
 use Rattle.pim_vectors.specs.Tiles.{TileView}
 
 -- what the buffer of `len` bytes keeps: the bytes that were taken and not handed out are those from `start` to `end`; there is
@@ -18,3 +19,7 @@ pub record IsBuffer (start end len longest given place : ℕ) : Type 0 where
 pub record IsTile (t : TileView) : Type 0 where
   pub short : t.words ≤ MAX_WORDS
   pub whole : length t.buffer ≡ t.columns * t.words
+
+-- what every stage keeps: a byte of each column for each eight of 64 lanes
+abbrev pub IsWhole : StageView → Type 0
+IsWhole s = length s.bytes ≡ 8 * s.columns

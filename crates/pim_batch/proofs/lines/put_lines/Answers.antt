@@ -20,5 +20,5 @@ loop-k-preserved c =
       left = same ∙ room;
       long = same ∙ before.long;
       stage = subst (IsStage c.args.results.now c.put_line.new.stage) (omega arith) put.stage;
-      sizes = record { columns = put.sizes.columns ∙ before.sizes.columns; words = put.sizes.words ∙ before.sizes.words };
+      columns = put.columns ∙ before.columns;
     }

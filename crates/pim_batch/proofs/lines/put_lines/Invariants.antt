@@ -1,5 +1,4 @@
 use Rattle.std.proofs.Common.{◌≡◌, ◌+◌, ◌-◌, ◌*◌, length, take}
-use Rattle.pim_vectors.specs.Tiles.{SameSizes}
 use Rattle.pim_batch.specs.inner.TileLines.{IsStage, row_lines_from}
 use Rattle.pim_batch.proofs.lines.put_lines.Given as goal
 
@@ -10,5 +9,5 @@ invariant-loop-k l = record {
   left : length l.lines ≡ l.at + (l.count - l.k) * l.width;
   long : length l.lines ≡ length l.initial.lines;
   stage : IsStage l.results l.stage (l.from + l.k);
-  sizes : SameSizes l.initial.stage l.stage;
+  columns : l.stage.columns ≡ l.initial.stage.columns;
 }

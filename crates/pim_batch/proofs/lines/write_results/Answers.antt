@@ -16,7 +16,7 @@ loop-from-preserved g c =
       within = omega (arith, count.ensures.within, before.within);
       room = wrote.room ∙ before.room;
       stage = wrote.stage;
-      sizes = record { columns = wrote.sizes.columns ∙ before.sizes.columns; words = wrote.sizes.words ∙ before.sizes.words };
+      columns = wrote.columns ∙ before.columns;
     }
 
 pub returns-in_err-write_lanes-clause-wrote : goal.returns-in_err-write_lanes-clause-wrote

@@ -1,7 +1,6 @@
 use Rattle.std.proofs.Common.{◌≡◌, ◌≤◌, ◌-◌, ℕ, List, Option, length}
 use Rattle.pim_io.specs.Outside.{Wrote}
 use Rattle.pim_io.specs.Writes.{Written}
-use Rattle.pim_vectors.specs.Tiles.{SameSizes}
 use Rattle.pim_batch.specs.inner.TileLines.{IsStage, row_lines, row_lines_from}
 use Rattle.pim_batch.proofs.lines.write_results.Given as goal
 
@@ -15,7 +14,7 @@ invariant-loop-from g l = record {
   within : l.from ≤ l.lanes;
   room : length l.chunk ≡ length l.initial.chunk;
   stage : IsStage l.results l.stage l.from;
-  sizes : SameSizes l.initial.stage l.stage;
+  columns : l.stage.columns ≡ l.initial.stage.columns;
 }
 
 abbrev pub decreases-loop-from : goal.decreases-loop-from

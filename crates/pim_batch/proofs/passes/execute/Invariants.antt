@@ -1,7 +1,7 @@
 use Rattle.std.proofs.Common.{◌≡◌, ◌-◌, ◌+◌, ◌*◌, ℕ, List, Option}
 use Rattle.pim_io.specs.Outside.{Wrote}
 use Rattle.pim_io.specs.Writes.{Written}
-use Rattle.pim_batch.specs.ImplyBatches.{IsRoom}
+use Rattle.pim_batch.specs.inner.Kept.{IsRoom}
 use Rattle.pim_batch.specs.inner.ImplyLines.{imply_lines}
 use Rattle.pim_batch.proofs.passes.execute.Given as goal
 

@@ -29,6 +29,6 @@ returns c =
     six_pieces _ _ _ _ _ _ _ _ _ _ _ _ _ _ c.new-text.ensures head ins outs cycles body c.in_ok-bytes.ensures c.into_bytes.ensures in
     record {
       text = whole;
-      again = subst (λ (t : List ℕ). parse1_of t ≡ Ok p) (sym whole) (parse1_of-text c.line_laws.ensures.read c.line_laws.ensures.lack c.line_laws.ensures.program p c.target.ensures.valid);
-      cut = subst (λ (t : List ℕ). (k : ℕ) → k < length t → parse1_of (take k t) ≡ Err faults.Truncated) (sym whole) (λ k lt. parse1_of-cut c.line_laws.ensures.read c.line_laws.ensures.lack c.line_laws.ensures.program p k c.target.ensures.valid lt);
+      again = subst (λ (t : List ℕ). parse1_of t ≡ Ok p) (sym whole) (parse1_of-text c.line_laws.ensures.read c.line_laws.ensures.program c.text_laws.ensures p c.target.ensures.valid);
+      cut = subst (λ (t : List ℕ). (k : ℕ) → k < length t → parse1_of (take k t) ≡ Err faults.Truncated) (sym whole) (λ k lt. parse1_of-cut c.line_laws.ensures.read c.line_laws.ensures.program c.text_laws.ensures p k c.target.ensures.valid lt);
     }

@@ -1,10 +1,10 @@
 use Rattle.std.proofs.Common.{◌≡◌, ℕ, ◌+◌, ◌<◌, ◌++◌, ◌∷◌, [], List, length, get_or, set, take, drop, count_by, Option, refl, sym, ◌∙◌, ap, subst, arith}
 use Rattle.std.proofs.Math.ListN.{length-set}
-use Rattle.pim_graph.specs.Allotments.{taken_at}
+use Rattle.pim_graph.specs.Allotments.{cells_along, taken_at}
 use Rattle.pim_graph.specs.Peaks.{needed, peak}
 use Rattle.pim_graph.specs.Readers.{CountsReads}
 use Rattle.pim_graph.specs.inner.Pools.{IsChoice, IsPool, holds}
-use Rattle.pim_graph.proofs.Allotting.{placed_pool, placed_cells, next_pool, held_at, next_within, next_reaches, exact_step, option_all, allotted, empty_pool, no_cells, below_of, over_before, children_single}
+use Rattle.pim_graph.proofs.Allotting.{placed_pool, placed_cells, next_pool, held_at, next_within, next_is, cells_left, cells_end, cells_peak, option_all, allotted, empty_pool, no_cells, below_of, over_before, children_single}
 use Rattle.pim_graph.proofs.Peaking.{peak_bounds}
 use Rattle.pim_graph.proofs.Placing.{reads_left}
 use Rattle.pim_graph.proofs.allotments.allot.Goals as goal
@@ -16,7 +16,7 @@ loop-place-init c = record {
   pool = empty_pool _ _ _ _ c.new-spares.ensures;
   given = no_cells _ _ _ _;
   most = omega (arith, ap (λ s. s.next) c.new-spares.ensures);
-  exact = λ none. omega arith;
+  cells = omega (arith, ap (λ s. s.next) c.new-spares.ensures);
 }
 
 pub choose-cell-requires-clause-there : goal.choose-cell-requires-clause-there
@@ -77,12 +77,24 @@ loop-place-preserved c =
       pool = next_pool g order new (set old x cell) over p c.args.first c.release.new.spares c.requires.placed c.requires.over here counts released;
       given = placed_cells g order left old over p c.args.first cell before chosen c.requires.placed c.requires.over here inv.left inv.len need choice inv.pool inv.given;
       most = omega arith;
-      exact = λ none.
-          let reach = next_reaches (taken_at over p) old before chosen cell c.args.first held (none p) choice counted in
-          exact_step g order p c.args.first (peak g order) before.next c.release.new.spares.next here (omega arith) (omega arith) (inv.exact none);
+      cells =
+          let is = next_is (taken_at over p) old before chosen cell c.args.first held choice counted in
+          cells_left g order over p c.args.first before.next c.release.new.spares.next (c.args.first + cells_along g order over) here (next ∙ is) inv.cells;
     }
 
 pub returns-clause-allotment : goal.returns-clause-allotment
 returns-clause-allotment c =
     let inv = c.loop-place.invariant in
     allotted c.args.graph.now c.args.order.now c.loop-place.left c.loop-place.cells.items c.args.over.now c.loop-place.place c.args.first c.loop-place.spares _ c.loop-place-test.false inv.len refl c.width.ensures inv.given inv.pool
+
+pub returns-clause-cells : goal.returns-clause-cells
+returns-clause-cells c =
+    let inv = c.loop-place.invariant in
+    let next = cells_end c.args.graph.now c.args.order.now c.args.over.now c.loop-place.place c.args.first c.loop-place.spares.next _ c.loop-place-test.false (omega (arith, inv.pool.counted)) inv.cells in
+    c.width.ensures ∙ next
+
+pub returns-clause-exact : goal.returns-clause-exact
+returns-clause-exact c = λ none.
+    let inv = c.loop-place.invariant in
+    let next = cells_end c.args.graph.now c.args.order.now c.args.over.now c.loop-place.place c.args.first c.loop-place.spares.next _ c.loop-place-test.false (omega (arith, inv.pool.counted)) inv.cells in
+    c.width.ensures ∙ next ∙ ap (λ (n : ℕ). c.args.first + n) (cells_peak c.args.graph.now c.args.over.now [] c.args.order.now none)

@@ -1,6 +1,6 @@
-use Rattle.std.proofs.Common.{◌≡◌, ◌+◌, ◌≤◌, ℕ, max, None, length, take, drop}
-use Rattle.pim_graph.specs.Allotments.{taken_at}
-use Rattle.pim_graph.specs.Peaks.{peak, peak_from}
+use Rattle.std.proofs.Common.{◌≡◌, ◌+◌, ◌≤◌, max, length, take, drop}
+use Rattle.pim_graph.specs.Allotments.{cells_along, cells_from}
+use Rattle.pim_graph.specs.Peaks.{peak}
 use Rattle.pim_graph.specs.Readers.{CountsReads, still_needed}
 use Rattle.pim_graph.specs.inner.Pools.{IsPool}
 use Rattle.pim_graph.proofs.Allotting.{HasCells}
@@ -13,5 +13,5 @@ invariant-loop-place l = record {
   pool : IsPool (still_needed l.graph l.left) (take l.place l.order) l.cells.items l.first l.spares;
   given : HasCells l.graph l.order l.over l.place l.cells.items;
   most : l.spares.next ≤ l.first + peak l.graph l.order;
-  exact : ((p : ℕ) → taken_at l.over p ≡ None) → l.first + peak l.graph l.order ≤ max l.spares.next (l.first + peak_from l.graph (take l.place l.order) (drop l.place l.order));
+  cells : max l.spares.next (l.first + cells_from l.graph l.over (take l.place l.order) (drop l.place l.order)) ≡ l.first + cells_along l.graph l.order l.over;
 }

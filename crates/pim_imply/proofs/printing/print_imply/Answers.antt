@@ -10,11 +10,11 @@ returns-clause-again c =
     let p = c.args.program.now in
     let whole : c.into_bytes.result.items ≡ text_of p = search rules in
     subst (λ (t : List ℕ). imply_of t ≡ Ok p) (sym whole)
-    (imply_of-text c.line_laws.ensures.read c.line_laws.ensures.lack c.line_laws.ensures.program p c.instrs-instrs.ensures.body c.instrs-instrs.ensures.few c.instrs-instrs.ensures.faultless)
+    (imply_of-text c.line_laws.ensures.read c.line_laws.ensures.program c.text_laws.ensures p c.instrs-instrs.ensures.body c.instrs-instrs.ensures.few c.instrs-instrs.ensures.faultless)
 
 pub returns-clause-cut : goal.returns-clause-cut
 returns-clause-cut c =
     let p = c.args.program.now in
     let whole : c.into_bytes.result.items ≡ text_of p = search rules in
     subst (λ (t : List ℕ). (k : ℕ) → k < length t → imply_of (take k t) ≡ Err faults.Truncated) (sym whole)
-    (λ k lt. imply_of-cut c.line_laws.ensures.read c.line_laws.ensures.lack c.line_laws.ensures.program p k c.instrs-instrs.ensures.body c.instrs-instrs.ensures.few c.instrs-instrs.ensures.faultless lt)
+    (λ k lt. imply_of-cut c.line_laws.ensures.read c.line_laws.ensures.program c.text_laws.ensures p k c.instrs-instrs.ensures.body c.instrs-instrs.ensures.few c.instrs-instrs.ensures.faultless lt)

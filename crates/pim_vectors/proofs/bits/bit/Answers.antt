@@ -1,4 +1,4 @@
-use Rattle.pim_vectors.proofs.TileLemmas.{is_set-shifted}
+use Rattle.pim_vectors.proofs.BitLemmas.{is_set-shifted}
 use Rattle.pim_vectors.proofs.bits.bit.Goals as goal
 
 pub returns : goal.returns

@@ -1,8 +1,7 @@
-use Rattle.std.proofs.Common.{ℕ, length, sym, ap, ◌∙◌, arith, below_more, get_or-set_same, get_or-set_other}
+use Rattle.std.proofs.Common.{ℕ, length, ap, ◌∙◌, arith, below_more, get_or-set_same, get_or-set_other}
 use Rattle.std.proofs.lemmas.List.FromFn.{fill_by_all}
 use Rattle.pim_io.specs.Bits.{digit_of}
 use Rattle.pim_vectors.specs.inner.Cells.{lane_at}
-use Rattle.pim_vectors.proofs.TileLemmas.{lane_at-one}
 use Rattle.pim_vectors.proofs.lanes.unpack_lane.Goals as goal
 
 pub loop-column-preserved : goal.loop-column-preserved
@@ -18,10 +17,3 @@ pub returns : goal.returns
 returns c =
     fill_by_all (λ (k : ℕ). digit_of (lane_at c.args.words c.args.buffer.now k c.args.index)) c.loop-column.line (length c.args.line.now) 0 (omega arith)
     (λ k small. c.loop-column.invariant k (omega arith))
-
-pub returns-then-words-eq1 : goal.returns-then-words-eq1
-returns-then-words-eq1 c =
-    let one = c.if-words-eq1.true in
-    fill_by_all (λ (k : ℕ). digit_of (lane_at c.args.words c.args.buffer.now k c.args.index)) c.unpack_bits.new.line (length c.args.line.now) 0 c.unpack_bits.auto.line
-    (λ k small.
-    c.unpack_bits.ensures k (omega arith) ∙ ap digit_of (sym (lane_at-one c.args.words c.args.buffer.now k c.args.index one c.requires.lane)))

@@ -1,5 +1,5 @@
 use Rattle.std.proofs.Common.{length, sym, ap, ◌∙◌}
-use Rattle.pim_batch.specs.Packing.{PackedView}
+use Rattle.pim_batch.specs.inner.Packing.{PackedView}
 use Rattle.pim_batch.proofs.PackingLemmas.{length-packed_rows}
 use Rattle.pim_batch.proofs.packed.Packed.count.Goals as goal
 

@@ -1,7 +1,7 @@
 use Rattle.std.proofs.Common.{◌≡◌, length, map, subst, ap, ◌∙◌}
 use Rattle.std.specs.List.{range_with_len}
 use Rattle.pim_vectors.specs.Tiles.{vector_of}
-use Rattle.pim_batch.specs.Packing.{PackedView}
+use Rattle.pim_batch.specs.inner.Packing.{PackedView}
 use Rattle.pim_batch.proofs.PackingLemmas.{rows_in_tile, row_in_tile, moved_row, moved_rows}
 use Rattle.pim_batch.proofs.packed.Packed.settle.Goals as goal
 

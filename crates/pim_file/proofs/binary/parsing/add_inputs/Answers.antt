@@ -1,5 +1,5 @@
 use Rattle.std.proofs.lemmas.Result.{err_from_is_err_and}
-use Rattle.pim_file.specs.Reading.{with_input}
+use Rattle.pim_file.specs.inner.Kept.{with_input}
 use Rattle.pim_file.specs.BinaryReading.{port_at}
 use Rattle.pim_file.specs.inner.BinaryKept.{with_inputs}
 use Rattle.pim_text.specs.PortLines.{port_view}

@@ -1,5 +1,5 @@
 use Rattle.std.proofs.lemmas.Result.{err_from_is_err_and}
-use Rattle.pim_file.specs.Reading.{with_instr}
+use Rattle.pim_file.specs.inner.Kept.{with_instr}
 use Rattle.pim_file.specs.BinaryReading.{instr_at}
 use Rattle.pim_file.specs.inner.BinaryKept.{with_instrs}
 use Rattle.pim_file.proofs.ManyLemmas.{goes_on, ends, is_done}

@@ -1,5 +1,5 @@
 use Rattle.std.proofs.lemmas.Result.{err_from_is_err_and}
-use Rattle.pim_file.specs.Reading.{with_output}
+use Rattle.pim_file.specs.inner.Kept.{with_output}
 use Rattle.pim_file.specs.BinaryReading.{port_at}
 use Rattle.pim_file.specs.inner.BinaryKept.{with_outputs}
 use Rattle.pim_text.specs.PortLines.{port_view}

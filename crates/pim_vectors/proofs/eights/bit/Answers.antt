@@ -1,0 +1,5 @@
+use Rattle.pim_vectors.proofs.BitLemmas.{is_set-shifted}
+use Rattle.pim_vectors.proofs.eights.bit.Goals as goal
+
+pub returns : goal.returns
+returns c = is_set-shifted c.args.byte c.args.place
