@@ -6,7 +6,6 @@ ghost use Rattle.pim_nor.specs.Lowered.{nors};
 ghost use Rattle.pim_nor.specs.Network.{nor_count};
 ghost use Rattle.pim_nor.specs.declared.lowering.Width.TheVariants as width_is;
 ghost use Rattle.pim_simpler.specs.Needs.{needed_of};
-ghost use Rattle.pim_tidy.specs.Tidied.{tidied};
 ghost use Rattle.pim_compile.specs.Networks.{coarse_of, if_few, most_nors, need_of, networks_at, networks_of, tidy_networks};
 ghost use Rattle.pim_compile.specs.inner.Candidates.{IsBestOf, IsScheduleOf};
 ghost use Rattle.pim_compile.specs.inner.Fits.{TellsNeed, program_of};

@@ -1,6 +1,6 @@
 //! A graph becomes a PLiM program: above level 0 it is tidied, made one of majorities and, at level 2, rewritten; each of these graphs
 //! is scheduled, and the shortest program is taken.
-ghost use Rattle.std.specs.Prelude.{◌≡◌, ◌<◌, ◌≤◌, [], ◌∷◌, Bool, List, length, map, IfOk, IfSome, OnOk};
+ghost use Rattle.std.specs.Prelude.{◌≡◌, ◌<◌, ◌≤◌, [], ◌∷◌, Bool, List, length, map, IfOk, IfSome};
 ghost use Rattle.pim_aig.specs.Values.{aval};
 ghost use Rattle.pim_aig.specs.declared.graph.TheConstants.{MAX_ANDS};
 ghost use Rattle.pim_isa.specs.declared.target.Target.TheVariants as target_is;

@@ -1,5 +1,5 @@
 -- Worked examples of the binary form, by computation.
-use Rattle.std.proofs.Common.{◌≡◌, List, ℕ, [], ◌∷◌, ◌++◌, Result, Ok, Err, codes, refl}
+use Rattle.std.proofs.Common.{◌≡◌, List, ℕ, [], ◌∷◌, ◌++◌, Ok, Err, codes, refl}
 use Rattle.pim_io.specs.Codes.{code_of, code_at}
 use Rattle.pim_isa.specs.Programs.{ProgramView}
 use Rattle.pim_isa.specs.declared.target.Target.TheVariants.{Magic, Plim}

@@ -276,8 +276,7 @@ joined-lines number place run (b ∷ bytes) = by_newline (is_newline b) refl (jo
         ap (λ (r : List ℕ). (run ++ codes "\n") ++ r) others ∙ append_assoc run (codes "\n") bytes ∙ ap (λ (c : ℕ). run ++ c ∷ bytes) (sym b_is)
     by_newline false t others same = same ∙ append_assoc run (b ∷ []) bytes
 
--- results, one after another
-
+-- behind the end no line may follow
 nothing_follows : {I : Type 0} (kind : Kind I) (s : Section) (draft : Option (Parts I)) (line : List ℕ) → is_ended s ≡ true → after_in kind any_size s draft line ≡ None
 nothing_follows kind section.First draft line e = absurd cc
 nothing_follows kind section.Target draft line e = absurd cc
