@@ -13,12 +13,12 @@ use Rattle.pim_io.specs.declared.limits.TheConstants.{MAX_INPUT}
 use Rattle.pim_top.specs.Judged.{behind_lines, judged_lines, judged_within, last_piece, settled}
 use Rattle.pim_top.specs.declared.refusal.Origin.TheVariants as origin
 use Rattle.pim_top.specs.declared.refusal.Refusal.TheVariants as refusal
-use Rattle.pim_top.specs.inner.Sessions.{IsAtLine}
+use Rattle.pim_top.specs.inner.Standing.{IsAtLine}
 use Rattle.pim_top.proofs.JudgedLines.{lines-append, piece-append, settled-append}
 use Rattle.pim_top.proofs.NextLine.{FindsLine, IsLine, finds-next, room}
 
 -- the bytes from the next line on
-abbrev rest_of : LinesView → List ℕ → List ℕ
+abbrev pub rest_of : LinesView → List ℕ → List ℕ
 rest_of l left = l.held ++ left
 
 -- the lines that are judged are those that were handed out and those from the next one on
@@ -164,7 +164,7 @@ over-next longest bytes left front l h said = elim (finds-next l (rest_of l left
 ]
 
 pub none-next : (longest : ℕ) (bytes left front : List ℕ) (l : LinesView) → IsAtLine longest bytes left l front → Says l left (Ok None) →
-    (judged_lines longest bytes ≡ lines front) × (behind_lines bytes ≡ None)
+    (judged_lines longest bytes ≡ lines front) × (behind_lines bytes ≡ None) × (rest_of l left ≡ [])
 none-next longest bytes left front l h said = elim (finds-next l (rest_of l left)) [
   | inl f ↦ absurd (answered-none (eqb l.given MAX_LINES) (ltb l.longest (length f.text)) (l.given + 1) f.text (sym f.answer ∙ said))
   | inr (inl f) ↦ absurd (let a = f.answer in let z : ⊥ = cc in z)
@@ -175,6 +175,7 @@ none-next longest bytes left front l h said = elim (finds-next l (rest_of l left
       ap (judged_within (room l) l.longest) f.none ∙ ap (λ (b : Bool). cond b [] (lines (settled l.longest (take (room l) [])))) (le-leb 0 (room l) (omega arith)) in (
         judged-split longest bytes left front l h ∙ ap (λ (ls : List (List ℕ)). lines front ++ ls) judged ∙ append-nil (lines front),
         ap (λ (b : Bool). cond b None (Some (refusal.TooLong origin.Input))) fits,
+        f.none,
       )
 ]
 

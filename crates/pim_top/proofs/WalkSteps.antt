@@ -166,12 +166,7 @@ running-start runner bytes taken l rows start empty =
     subst (λ (x : LinesView). IsRunning runner bytes bytes taken taken x rows) (sym start) (record {
       front = [];
       walk = record {
-        longest = refl;
-        cut = refl;
-        place = refl;
-        within = omega arith;
-        whole = inl refl;
-        given = refl;
+        at = record { same = refl; cut = refl; place = refl; within = omega arith; whole = inl refl; given = refl };
         refusals = λ behind more. refl;
         fits = λ more. refl;
       };

@@ -19,15 +19,7 @@ use Rattle.pim_top.specs.declared.judgement.Judgement.TheVariants as judgement
 use Rattle.pim_top.specs.declared.refusal.Origin.TheVariants as origin
 use Rattle.pim_top.specs.declared.refusal.Refusal.{Refusal}
 use Rattle.pim_top.specs.declared.refusal.Refusal.TheVariants as refusal
-
--- of the bytes the front was handed out as lines of at most so many bytes, some more are held, and the rest is left in the source
-pub record IsAtLine (longest : ℕ) (bytes rest : List ℕ) (l : LinesView) (front : List ℕ) : Type 0 where
-  pub same : l.longest ≡ longest
-  pub cut : bytes ≡ front ++ (l.held ++ rest)
-  pub place : l.place ≡ length front
-  pub within : length front ≤ MAX_INPUT
-  pub whole : (last_piece front ≡ []) ⊎ (l.held ++ rest ≡ [])
-  pub given : l.given ≡ length (lines front)
+use Rattle.pim_top.specs.inner.Standing.{IsAtLine}
 
 -- the lines that were handed out were obeyed, and the output took what is written for them
 pub record IsDebugging (p : ProgramView) (fill : Fill) (bytes rest : List ℕ) (before now : Option (List ℕ)) (l : LinesView) (session : Option SessionView) : Type 0 where

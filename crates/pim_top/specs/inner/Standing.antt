@@ -20,14 +20,18 @@ use Rattle.pim_top.specs.declared.refusal.Refusal.TheVariants as refusal
 abbrev pub first_line : ℕ → LinesView
 first_line width = record { longest = width; given = 0; place = 0; held = [] }
 
--- of the bytes the front was handed out as lines, all of which fit, some more are held, and the rest is left in the source
-pub record IsWalk (width : ℕ) (bytes rest : List ℕ) (l : LinesView) (front : List ℕ) : Type 0 where
-  pub longest : l.longest ≡ width
+-- of the bytes the front was handed out as lines of at most so many bytes, some more are held, and the rest is left in the source
+pub record IsAtLine (longest : ℕ) (bytes rest : List ℕ) (l : LinesView) (front : List ℕ) : Type 0 where
+  pub same : l.longest ≡ longest
   pub cut : bytes ≡ front ++ (l.held ++ rest)
   pub place : l.place ≡ length front
   pub within : length front ≤ MAX_INPUT
   pub whole : (last_piece front ≡ []) ⊎ (l.held ++ rest ≡ [])
   pub given : l.given ≡ length (lines front)
+
+-- the same, where all of these lines fit
+pub record IsWalk (width : ℕ) (bytes rest : List ℕ) (l : LinesView) (front : List ℕ) : Type 0 where
+  pub at : IsAtLine width bytes rest l front
   pub refusals : (behind : Option Refusal) (more : List (List ℕ)) → first_refusal width 0 behind (lines front ++ more) ≡ first_refusal width l.given behind more
   pub fits : (more : List (List ℕ)) → fitting width 0 (lines front ++ more) ≡ lines front ++ fitting width l.given more
 

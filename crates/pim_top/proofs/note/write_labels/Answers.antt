@@ -3,7 +3,7 @@ use Rattle.std.proofs.lemmas.Result.{err_from_is_err_and}
 use Rattle.pim_io.specs.Outside.{Wrote}
 use Rattle.pim_io.specs.declared.sink.SinkFault.{SinkFault}
 use Rattle.pim_top.specs.Notes.{spaced}
-use Rattle.pim_top.proofs.SpacedLabels.{spaced-all, spaced-more, spaced-rest}
+use Rattle.pim_top.proofs.SpacedLabels.{spaced-all, spaced-rest, wrote-more}
 use Rattle.pim_top.proofs.note.write_labels.Goals as goal
 
 pub loop-label-init : goal.loop-label-init
@@ -12,46 +12,33 @@ loop-label-init g c = record { laws = c.tell_writes.ensures; wrote = c.tell_writ
 pub loop-label-preserved : goal.loop-label-preserved
 loop-label-preserved g c =
     let labels = c.list-label-items.result.now in
-    let k = c.loop-label.label-index in
-    let label : List ℕ = c.bytes.result.now in
     let inv = c.loop-label.invariant in
-    let start = g.E.Sink.taken c.args.notes.now in
-    let count = g.E.Sink.faults c.args.notes.now in
-    let now = g.E.Sink.taken c.loop-label.notes in
-    let faults = g.E.Sink.faults c.loop-label.notes in
-    let next = g.E.Sink.taken c.write_pieces.new.sink in
-    let more = g.E.Sink.faults c.write_pieces.new.sink in
-    let F : List ℕ → Type 0 = λ p. Wrote {A = Unit {0}} {E = SinkFault} (Ok tt) now next faults more (p ++ label) in
-    let W : List ℕ → Type 0 = λ t. Wrote {A = Unit {0}} {E = SinkFault} (Ok tt) start next count more t in
-    let piece = subst F c.as_slice.ensures c.in_ok-write_pieces.ensures.wrote in
-    let same : spaced (take k labels) ++ (codes " " ++ label) ≡ spaced (take (k + 1) labels) =
-    ap (λ (l : List ℕ). spaced (take k labels) ++ (codes " " ++ l)) (c.bytes.ensures.value ∙ c.label-item.is) ∙ sym (spaced-more labels k c.label-item.result c.loop-label-test.true) in
     record {
       laws = inv.laws;
-      wrote = subst W same (inv.laws.both start now next count faults more (Ok tt) (spaced (take k labels)) (codes " " ++ label) inv.wrote piece);
+      wrote =
+          wrote-more inv.laws labels c.loop-label.label-index c.label-item.result c.as_slice.result.now c.bytes.result.now
+          (g.E.Sink.taken c.args.notes.now) (g.E.Sink.taken c.loop-label.notes) (g.E.Sink.taken c.write_pieces.new.sink)
+          (g.E.Sink.faults c.args.notes.now) (g.E.Sink.faults c.loop-label.notes) (g.E.Sink.faults c.write_pieces.new.sink)
+          (Ok tt) c.loop-label-test.true c.as_slice.ensures (c.bytes.ensures.value ∙ c.label-item.is) inv.wrote c.in_ok-write_pieces.ensures.wrote;
     }
 
 pub returns-in_err-write_pieces : goal.returns-in_err-write_pieces
 returns-in_err-write_pieces g c =
     let labels = c.list-label-items.result.now in
     let k = c.loop-label.label-index in
-    let label : List ℕ = c.bytes.result.now in
     let inv = c.loop-label.invariant in
     let start = g.E.Sink.taken c.args.notes.now in
     let count = g.E.Sink.faults c.args.notes.now in
-    let now = g.E.Sink.taken c.loop-label.notes in
-    let faults = g.E.Sink.faults c.loop-label.notes in
     let next = g.E.Sink.taken c.write_pieces.new.sink in
     let more = g.E.Sink.faults c.write_pieces.new.sink in
     let fault = c.in_err-write_pieces.field-0.0 in
-    let F : List ℕ → Type 0 = λ p. Wrote {A = Unit {0}} {E = SinkFault} (Err fault) now next faults more (p ++ label) in
-    let W : List ℕ → Type 0 = λ t. Wrote {A = Unit {0}} {E = SinkFault} (Err fault) start next count more t in
-    let piece = subst F c.as_slice.ensures c.in_err-write_pieces.ensures.wrote in
-    let same : spaced (take k labels) ++ (codes " " ++ label) ≡ spaced (take (k + 1) labels) =
-    ap (λ (l : List ℕ). spaced (take k labels) ++ (codes " " ++ l)) (c.bytes.ensures.value ∙ c.label-item.is) ∙ sym (spaced-more labels k c.label-item.result c.loop-label-test.true) in
-    let part = subst W same (inv.laws.both start now next count faults more (Err fault) (spaced (take k labels)) (codes " " ++ label) inv.wrote piece) in
+    let part =
+    wrote-more inv.laws labels k c.label-item.result c.as_slice.result.now c.bytes.result.now
+    start (g.E.Sink.taken c.loop-label.notes) next count (g.E.Sink.faults c.loop-label.notes) more
+    (Err fault) c.loop-label-test.true c.as_slice.ensures (c.bytes.ensures.value ∙ c.label-item.is) inv.wrote c.in_err-write_pieces.ensures.wrote in
     let whole : spaced (take (k + 1) labels) ++ spaced (drop (k + 1) labels) ≡ spaced c.args.labels.now = sym (spaced-rest labels (k + 1)) ∙ ap spaced c.list-label-items.ensures in
     let p = err_from_is_err_and c.from_residual.result c.from_residual.ensures.1 in
+    let W : List ℕ → Type 0 = λ t. Wrote {A = Unit {0}} {E = SinkFault} (Err fault) start next count more t in
     rw p.1 (subst W whole (inv.laws.failed start next count more fault (spaced (take (k + 1) labels)) (spaced (drop (k + 1) labels)) part))
 
 pub returns : goal.returns
