@@ -1,5 +1,4 @@
 use Rattle.std.proofs.Common.{◌≡◌, [], ◌∙◌, rules}
-use Rattle.pim_graph.specs.Graphs.{GraphView}
 use Rattle.pim_isa.specs.Sound.{cells_of}
 use Rattle.pim_life.specs.inner.Drawing.{drawn, gates_held}
 use Rattle.pim_life.proofs.LastGates.{drawn_graph}
