@@ -7,10 +7,10 @@ use Rattle.std.proofs.lemmas.List.Elements.{All-nil, All-push, All-weaker}
 use Rattle.std.proofs.lemmas.List.FromFn.{length-range_with_len, get_or-range_with_len}
 use Rattle.pim_graph.specs.Graphs.{GraphView, IsGraph, has, kids_of}
 use Rattle.pim_graph.specs.Peaks.{IsPlaced}
-use Rattle.pim_life.specs.NorGraphs.{emptied, gate_in, gates_in, with_gate}
-use Rattle.pim_life.specs.inner.Drawing.{Holds}
+use Rattle.pim_life.specs.NorGraphs.{with_gate}
+use Rattle.pim_life.specs.inner.Drawing.{Holds, emptied, gate_in, gates_held}
 
-none_there : (held : List (Option ℕ)) (d : ℕ) → gate_in (set held d None) d ≡ None
+pub none_there : (held : List (Option ℕ)) (d : ℕ) → gate_in (set held d None) d ≡ None
 none_there [] d = refl
 none_there (x ∷ xs) zero = refl
 none_there (x ∷ xs) (suc d) = none_there xs d
@@ -60,12 +60,12 @@ with_gate_within n gates (Some gate) small all =
     either false more = more
 
 gates_within_from : (kids : List (List ℕ)) (held : List (Option ℕ)) (gates cs : List ℕ) → Holds kids held → All (λ x. x < length kids) gates →
-    All (λ x. x < length kids) (gates_in held gates cs)
+    All (λ x. x < length kids) (gates_held held gates cs)
 gates_within_from kids held gates [] holds all = all
 gates_within_from kids held gates (c ∷ cs) holds all =
     gates_within_from kids held (with_gate gates (gate_in held c)) cs holds (with_gate_within (length kids) gates (gate_in held c) (holds c) all)
 
-pub gates_within : (kids : List (List ℕ)) (held : List (Option ℕ)) (cs gates : List ℕ) → Holds kids held → gates ≡ gates_in held [] cs →
+pub gates_within : (kids : List (List ℕ)) (held : List (Option ℕ)) (cs gates : List ℕ) → Holds kids held → gates ≡ gates_held held [] cs →
     All (λ x. x < length kids) gates
 gates_within kids held cs gates holds is =
     subst (λ (gs : List ℕ). All (λ x. x < length kids) gs) (sym is)

@@ -29,7 +29,7 @@ tree_line g = tree_text (tree_of g) (length g.kids) (peak g (order g)) (peak g (
 abbrev pub tree_explanation : ProgramView → List ℕ
 tree_explanation p = explanation p ++ tree_line (nor_graph_of p)
 
--- a refusal: only a program for PLiM is none for MAGIC; that memory was wanting says nothing
+-- a refusal: only a program for PLiM is none for MAGIC; out of memory says nothing
 abbrev pub IsRefusedTree : ProgramView → TreeFault → Type 0
 IsRefusedTree p NotMagic = p.target ≡ Plim
 IsRefusedTree p NoMemory = Unit {0}

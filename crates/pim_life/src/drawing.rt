@@ -3,9 +3,9 @@ ghost use Rattle.pim_graph.specs.Graphs.{has};
 ghost use Rattle.pim_isa.specs.Sound.{cells_of};
 ghost use Rattle.pim_isa.specs.Touches.{operands};
 ghost use Rattle.pim_isa.specs.declared.target.Target.TheVariants as targets;
-ghost use Rattle.pim_life.specs.NorGraphs.{drawn_after, drawn_from, emptied, gate_in, gates_in, nor_graph_of, with_gate};
+ghost use Rattle.pim_life.specs.NorGraphs.{nor_graph_of, with_gate};
 ghost use Rattle.pim_life.specs.TreeLines.{IsRefusedTree};
-ghost use Rattle.pim_life.specs.inner.Drawing.{Holds};
+ghost use Rattle.pim_life.specs.inner.Drawing.{Holds, drawn_after, drawn_from, emptied, gate_in, gates_held};
 
 use crate::tree_fault::TreeFault;
 use pim_graph::Graph;
@@ -33,6 +33,7 @@ pub fn nor_graph(alloc: Global, program: &Program) -> Result<Graph, TreeFault>
 fn draw(alloc: Global, program: &Program) -> Result<Graph, NoMemory>
     ensures { IfOk result (λ graph. graph ≡ nor_graph_of program.now) }
 {
+    program.laws();
     let mut graph = Graph::new(alloc);
     let mut held = vec![in alloc; None; program.cells() as usize]?;
     draw_all(alloc, &mut graph, &mut held, program.instrs())?;
@@ -124,7 +125,7 @@ fn empty(held: &mut Vec<Option<u32>>, cells: &[u32])
 
 /// The gates that the operands' cells hold, each once.
 fn operand_gates(alloc: Global, held: &[Option<u32>], ins: Ins) -> Result<Vec<u32>, NoMemory>
-    ensures gates { IfOk result (λ gates. gates.items ≡ gates_in held.now [] (operands ins)) }
+    ensures gates { IfOk result (λ gates. gates.items ≡ gates_held held.now [] (operands ins)) }
     ensures few { IfOk result (λ gates. length gates.items ≤ 4) }
 {
     match ins {
@@ -137,7 +138,7 @@ fn operand_gates(alloc: Global, held: &[Option<u32>], ins: Ins) -> Result<Vec<u3
 
 /// The gates that the cells hold, each once.
 fn gates_of(alloc: Global, held: &[Option<u32>], cells: &[u32]) -> Result<Vec<u32>, NoMemory>
-    ensures gates { IfOk result (λ gates. gates.items ≡ gates_in held.now [] cells.now) }
+    ensures gates { IfOk result (λ gates. gates.items ≡ gates_held held.now [] cells.now) }
     ensures few { IfOk result (λ gates. length gates.items ≤ length cells.now) }
 {
     let mut gates = Vec::new(alloc);
@@ -175,7 +176,7 @@ fn contains(gates: &[u32], gate: u32) -> bool
 /// The gates that the outputs' cells hold are roots.
 fn add_roots(graph: &mut Graph, held: &[Option<u32>], outputs: &[Port]) -> Result<(), NoMemory>
     requires { Holds graph.old.kids held.now }
-    ensures roots { OnOk result (graph.new.roots ≡ gates_in held.now graph.old.roots (cells_of outputs.now)) }
+    ensures roots { OnOk result (graph.new.roots ≡ gates_held held.now graph.old.roots (cells_of outputs.now)) }
     ensures kids { OnOk result (graph.new.kids ≡ graph.old.kids) }
 {
     for port in outputs {

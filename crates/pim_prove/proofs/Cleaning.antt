@@ -1,5 +1,5 @@
 -- Clean programs, by the first use of a cell that isn't set.
-use Rattle.std.proofs.Common.{◌≡◌, ℕ, zero, suc, ◌+◌, Bool, true, false, ◌||◌, List, [], ◌∷◌, length, take, Option, Some, None, inl, inr, refl, sym, ap, subst, ◌∙◌}
+use Rattle.std.proofs.Common.{◌≡◌, ℕ, zero, suc, ◌+◌, Bool, true, false, List, [], ◌∷◌, length, take, Option, Some, None, inl, inr, refl, sym, ap, subst, ◌∙◌}
 use Rattle.std.specs.Prelude.{◌↔◌, All, IsNone, slice_get, option_map}
 use Rattle.std.specs.List.{list_any}
 use Rattle.std.specs.Option.{option_or}
@@ -12,8 +12,10 @@ use Rattle.pim_isa.specs.Touches.{writes}
 use Rattle.pim_isa.specs.Validity.{has}
 use Rattle.pim_prove.specs.declared.unset.Unset.{Unset}
 use Rattle.pim_prove.specs.declared.unset.Unset.TheVariants.{Used, Output}
-use Rattle.pim_prove.specs.Clean.{IsClean, first_unset_of, first_unset_output, set_after, unset_from, unset_of, uses}
+use Rattle.pim_prove.specs.Clean.{IsClean, first_unset_of, first_unset_output, unset_of, uses}
+use Rattle.pim_prove.specs.inner.Marks.{set_after, unset_from}
 use Rattle.pim_prove.proofs.Cells.{AllSet}
+use Rattle.pim_prove.proofs.Places.{input_set, or_assoc, or_none, set_by, unset_by_places}
 use Rattle.pim_prove.proofs.Steadiness.{CleanFrom}
 
 -- ---- no cell is found
@@ -72,22 +74,10 @@ none_of_clean set k (i ∷ is) outputs clean =
 
 -- ---- place by place
 
--- the cell was set at first, or one of the instructions writes it
-abbrev pub set_by : (ℕ → Bool) → List Instr → ℕ → Bool
-set_by set is c = set c || list_any (λ i. has c (writes i)) is
-
 -- each cell that an instruction uses is set before it, and each of these cells at the end
 pub record IsCleanIn (set : ℕ → Bool) (is : List Instr) (cells : List ℕ) : Type 0 where
   pub used : (k : ℕ) (i : Instr) → slice_get is k ≡ Some i → All (λ c. set_by set (take k is) c ≡ true) (uses i)
   pub outputs : All (λ c. set_by set is c ≡ true) cells
-
-or_assoc : (a b c : Bool) → ((a || b) || c) ≡ (a || (b || c))
-or_assoc true b c = refl
-or_assoc false b c = refl
-
-or_right_none : (b : Bool) → (b || false) ≡ b
-or_right_none true = refl
-or_right_none false = refl
 
 -- setting by one instruction and then by others
 set_by_more : (set : ℕ → Bool) (i : Instr) (is : List Instr) (c : ℕ) → set_by (set_after set i) is c ≡ set_by set (i ∷ is) c
@@ -107,7 +97,7 @@ all_same f g cs same all = All-weaker (λ c. f c ≡ true) (λ c. g c ≡ true) 
 clean_in : (set : ℕ → Bool) (is : List Instr) (outputs : List ℕ) → CleanFrom set is outputs → IsCleanIn set is outputs
 clean_in set [] outputs clean = record {
   used = λ k i is. cc;
-  outputs = all_same set (set_by set []) outputs (λ c. sym (or_right_none (set c))) (all_from set outputs clean);
+  outputs = all_same set (set_by set []) outputs (λ c. sym (or_none (set c))) (all_from set outputs clean);
 }
 clean_in set (i ∷ is) outputs clean =
     let rest = clean_in (set_after set i) is outputs clean.1 in
@@ -122,14 +112,14 @@ clean_in set (i ∷ is) outputs clean =
     used_in set i is here later zero j at =
         let same : i ≡ j = cc in
         let P : Instr → Type 0 = λ x. All (λ c. set_by set [] c ≡ true) (uses x) in
-        subst P same (all_same set (set_by set []) (uses i) (λ c. sym (or_right_none (set c))) (all_from set (uses i) here))
+        subst P same (all_same set (set_by set []) (uses i) (λ c. sym (or_none (set c))) (all_from set (uses i) here))
     used_in set i is here later (suc k) j at =
         all_same (set_by (set_after set i) (take k is)) (set_by set (i ∷ take k is)) (uses j) (set_by_more set i (take k is)) (later k j at)
 
 clean_from : (set : ℕ → Bool) (is : List Instr) (outputs : List ℕ) → IsCleanIn set is outputs → CleanFrom set is outputs
-clean_from set [] outputs clean = from_all set outputs (all_same (set_by set []) set outputs (λ c. or_right_none (set c)) clean.outputs)
+clean_from set [] outputs clean = from_all set outputs (all_same (set_by set []) set outputs (λ c. or_none (set c)) clean.outputs)
 clean_from set (i ∷ is) outputs clean = (
-  from_all set (uses i) (all_same (set_by set []) set (uses i) (λ c. or_right_none (set c)) (clean.used 0 i refl)),
+  from_all set (uses i) (all_same (set_by set []) set (uses i) (λ c. or_none (set c)) (clean.used 0 i refl)),
   clean_from (set_after set i) is outputs (record {
     used = λ k j at. all_same (set_by set (i ∷ take k is)) (set_by (set_after set i) (take k is)) (uses j) (λ c. sym (set_by_more set i (take k is) c)) (clean.used (suc k) j at);
     outputs = all_same (set_by set (i ∷ is)) (set_by (set_after set i) is) outputs (λ c. sym (set_by_more set i is c)) clean.outputs;
@@ -137,10 +127,6 @@ clean_from set (i ∷ is) outputs clean = (
 )
 
 -- ---- a program
-
--- the cells of the inputs
-abbrev pub input_set : ProgramView → ℕ → Bool
-input_set p c = has c (cells_of p.inputs)
 
 -- all of a list
 take_whole : (is : List Instr) → take (length is) is ≡ is
@@ -155,11 +141,11 @@ clean_front p clean =
     })
 
 pub unset_of_clean : (p : ProgramView) → IsClean p → unset_of p ≡ None
-unset_of_clean p clean = none_of_clean (input_set p) 0 p.instrs (cells_of p.outputs) (clean_front p clean)
+unset_of_clean p clean = sym (unset_by_places p) ∙ none_of_clean (input_set p) 0 p.instrs (cells_of p.outputs) (clean_front p clean)
 
 pub clean_of_unset : (p : ProgramView) → unset_of p ≡ None → IsClean p
 clean_of_unset p none =
-    let clean = clean_in (input_set p) p.instrs (cells_of p.outputs) (clean_of_none (input_set p) 0 p.instrs (cells_of p.outputs) none) in
+    let clean = clean_in (input_set p) p.instrs (cells_of p.outputs) (clean_of_none (input_set p) 0 p.instrs (cells_of p.outputs) (unset_by_places p ∙ none)) in
     record {
       used = clean.used;
       outputs = subst (λ (is : List Instr). All (λ c. set_by (input_set p) is c ≡ true) (cells_of p.outputs)) (sym (take_whole p.instrs)) clean.outputs;

@@ -5,6 +5,7 @@ pub mod Cleaning
 pub mod Lanes
 pub mod Marking
 pub mod Numbers
+pub mod Places
 pub mod Refusals
 pub mod Starts
 pub mod Steadiness

@@ -1,5 +1,5 @@
 -- Which cells are set, as marks tell it.
-use Rattle.std.proofs.Common.{◌≡◌, ℕ, zero, suc, ◌+◌, ◌<◌, Bool, true, false, ◌||◌, cond, eqb, List, [], ◌∷◌, ◌++◌, length, drop, set, get_or, replicate, Option, Some, None, inl, inr, refl, sym, ap, subst, ◌∙◌, add-one, drop-cons, length-set, get_or-set_same, get_or-set_other}
+use Rattle.std.proofs.Common.{◌≡◌, ℕ, zero, suc, ◌+◌, ◌<◌, Bool, true, false, ◌||◌, eqb, List, [], ◌∷◌, ◌++◌, length, drop, set, get_or, replicate, Option, Some, None, inl, inr, refl, sym, ap, subst, ◌∙◌, add-one, drop-cons, length-set, get_or-set_same, get_or-set_other}
 use Rattle.std.specs.Prelude.{All, option_map}
 use Rattle.std.specs.Option.{option_or}
 use Rattle.std.proofs.lemmas.Bool.{cases_eq, eq-eqb, ne_eqb}
@@ -12,16 +12,14 @@ use Rattle.pim_isa.specs.Steps.{bit, set_ones}
 use Rattle.pim_isa.specs.Touches.{reads, writes}
 use Rattle.pim_isa.specs.Validity.{has}
 use Rattle.pim_prove.specs.declared.unset.Unset.{Unset}
-use Rattle.pim_prove.specs.declared.unset.Unset.TheVariants.{Used, Output}
-use Rattle.pim_prove.specs.Clean.{first_unset_of, first_unset_output, set_after, unset_from, unset_of, uses}
+use Rattle.pim_prove.specs.declared.unset.Unset.TheVariants.{Used}
+use Rattle.pim_prove.specs.Clean.{first_unset_of, unset_of, uses}
+use Rattle.pim_prove.specs.inner.Marks.{set_after, unset_from}
+use Rattle.pim_prove.proofs.Places.{input_set, or_none, unset_by_places, unset_from-same}
 
 or_true : (b : Bool) → (b || true) ≡ true
 or_true true = refl
 or_true false = refl
-
-or_none : (b : Bool) → (b || false) ≡ b
-or_none true = refl
-or_none false = refl
 
 length-set_ones : (cs : List ℕ) (m : List Bool) → length (set_ones cs m) ≡ length m
 length-set_ones [] m = refl
@@ -47,27 +45,6 @@ bit-set_ones (d ∷ ds) m c within =
           ap (λ (b : Bool). b || has c ds) (get_or-set_other m d c true false (λ same. other (sym same)))
           ∙ ap (λ (b : Bool). bit m c || (b || has c ds)) (sym (ne_eqb d c other))
     ]
-
--- ---- what is found depends on which cells are set alone
-
-first_unset_of-same : (f g : ℕ → Bool) → ((c : ℕ) → f c ≡ g c) → (cs : List ℕ) → first_unset_of f cs ≡ first_unset_of g cs
-first_unset_of-same f g same [] = refl
-first_unset_of-same f g same (c ∷ cs) =
-    ap (λ (b : Bool). cond b (first_unset_of f cs) (Some c)) (same c)
-    ∙ ap (λ (o : Option ℕ). cond (g c) o (Some c)) (first_unset_of-same f g same cs)
-
-first_unset_output-same : (f g : ℕ → Bool) → ((c : ℕ) → f c ≡ g c) → (k : ℕ) (cs : List ℕ) → first_unset_output f k cs ≡ first_unset_output g k cs
-first_unset_output-same f g same k [] = refl
-first_unset_output-same f g same k (c ∷ cs) =
-    ap (λ (b : Bool). cond b (first_unset_output f (k + 1) cs) (Some k)) (same c)
-    ∙ ap (λ (o : Option ℕ). cond (g c) o (Some k)) (first_unset_output-same f g same (k + 1) cs)
-
-unset_from-same : (f g : ℕ → Bool) → ((c : ℕ) → f c ≡ g c) → (k : ℕ) (is : List Instr) (outputs : List ℕ) → unset_from f k is outputs ≡ unset_from g k is outputs
-unset_from-same f g same k [] outputs = ap (option_map (λ n. Output n)) (first_unset_output-same f g same 0 outputs)
-unset_from-same f g same k (i ∷ is) outputs =
-    ap (λ (o : Option ℕ). option_or (option_map (λ c. Used k c) o) (unset_from (set_after f i) (k + 1) is outputs)) (first_unset_of-same f g same (uses i))
-    ∙ ap (option_or (option_map (λ c. Used k c) (first_unset_of g (uses i))))
-    (unset_from-same (set_after f i) (set_after g i) (λ c. ap (λ (b : Bool). b || has c (writes i)) (same c)) (k + 1) is outputs)
 
 -- ---- the walk
 
@@ -119,10 +96,11 @@ walk_begins p items outputs m valid same out_same is =
     let within : All (λ d. d < length blank) (cells_of p.inputs) =
     subst (λ (n : ℕ). All (λ d. d < n) (cells_of p.inputs)) (sym (length-replicate p.cells false)) valid.sound.inputs in
     ap (λ (x : List Bool). unset_from (bit x) 0 items outputs) is
-    ∙ unset_from-same (bit (set_ones (cells_of p.inputs) blank)) (λ c. has c (cells_of p.inputs))
+    ∙ unset_from-same (bit (set_ones (cells_of p.inputs) blank)) (input_set p)
     (λ c. bit-set_ones (cells_of p.inputs) blank c within ∙ ap (λ (b : Bool). b || has c (cells_of p.inputs)) (blank_bit p.cells c)) 0 items outputs
-    ∙ ap (λ (is : List Instr). unset_from (λ c. has c (cells_of p.inputs)) 0 is outputs) same
-    ∙ ap (λ (cs : List ℕ). unset_from (λ c. has c (cells_of p.inputs)) 0 p.instrs cs) out_same
+    ∙ ap (λ (is : List Instr). unset_from (input_set p) 0 is outputs) same
+    ∙ ap (λ (cs : List ℕ). unset_from (input_set p) 0 p.instrs cs) out_same
+    ∙ unset_by_places p
   where
     blank_bit : (n c : ℕ) → bit (replicate n false) c ≡ false
     blank_bit zero c = refl

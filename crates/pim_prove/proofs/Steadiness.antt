@@ -15,7 +15,8 @@ use Rattle.pim_isa.specs.Sound.{cells_of, IsProgram, IsValid}
 use Rattle.pim_isa.specs.Steps.{bit, exec, majority, step, value}
 use Rattle.pim_isa.specs.Touches.{names, operands, operand_cells, reads, writes}
 use Rattle.pim_isa.specs.Validity.{has}
-use Rattle.pim_prove.specs.Clean.{are_unequal, set_after, uses}
+use Rattle.pim_prove.specs.Clean.{are_unequal, uses}
+use Rattle.pim_prove.specs.inner.Marks.{set_after}
 use Rattle.pim_prove.specs.Steady.{IsSteady}
 use Rattle.pim_prove.proofs.Cells.{AllSet, AllSet-back, AllSet-front, All-has, any_same, has-front, same_at, same_on}
 

@@ -49,16 +49,12 @@ abbrev pub first_unset_output : (ℕ → Bool) → ℕ → List ℕ → Option �
 first_unset_output set k [] = None
 first_unset_output set k (c ∷ cs) = if set c then first_unset_output set (k + 1) cs else Some k
 
--- the cells that are set after one more instruction
-abbrev pub set_after : (ℕ → Bool) → Instr → ℕ → Bool
-set_after set i c = set c || has c (writes i)
-
--- the first use of a cell that isn't set, where these cells are set before the instructions, which stand from place k on
-abbrev pub unset_from : (ℕ → Bool) → ℕ → List Instr → List ℕ → Option Unset
-unset_from set k [] outputs = option_map (λ n. Output n) (first_unset_output set 0 outputs)
-unset_from set k (i ∷ is) outputs =
-    option_or (option_map (λ c. Used k c) (first_unset_of set (uses i))) (unset_from (set_after set i) (k + 1) is outputs)
+-- the first use of a cell that isn't set, by an instruction that stands from place k on, or else by an output behind them
+abbrev pub unset_behind : ProgramView → ℕ → List Instr → Option Unset
+unset_behind p k [] = option_map (λ n. Output n) (first_unset_output (is_set_at p k) 0 (cells_of p.outputs))
+unset_behind p k (i ∷ is) =
+    option_or (option_map (λ c. Used k c) (first_unset_of (is_set_at p k) (uses i))) (unset_behind p (k + 1) is)
 
 -- the first use of a cell that isn't set: by the least instruction and then in the order of what it uses, else by the least output
 abbrev pub unset_of : ProgramView → Option Unset
-unset_of p = unset_from (λ c. has c (cells_of p.inputs)) 0 p.instrs (cells_of p.outputs)
+unset_of p = unset_behind p 0 p.instrs

@@ -1,2 +1,3 @@
 -- Definitions that only private functions and the keeping of a type cite.
 pub mod Comparing
+pub mod Marks

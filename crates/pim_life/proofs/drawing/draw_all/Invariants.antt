@@ -1,6 +1,5 @@
 use Rattle.std.proofs.Common.{◌≡◌, drop}
-use Rattle.pim_life.specs.NorGraphs.{drawn_from}
-use Rattle.pim_life.specs.inner.Drawing.{Holds}
+use Rattle.pim_life.specs.inner.Drawing.{Holds, drawn_from}
 use Rattle.pim_life.proofs.drawing.draw_all.Given as goal
 
 -- drawing the instructions that are left makes the whole

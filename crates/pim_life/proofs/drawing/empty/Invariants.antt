@@ -1,5 +1,5 @@
 use Rattle.std.proofs.Common.{◌≡◌, drop}
-use Rattle.pim_life.specs.NorGraphs.{emptied}
+use Rattle.pim_life.specs.inner.Drawing.{emptied}
 use Rattle.pim_life.proofs.drawing.empty.Given as goal
 
 -- emptying the cells that are left makes the whole

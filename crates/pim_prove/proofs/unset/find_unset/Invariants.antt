@@ -1,7 +1,8 @@
 use Rattle.std.proofs.Common.{◌≡◌, drop, length}
 use Rattle.pim_isa.specs.Sound.{cells_of}
 use Rattle.pim_isa.specs.Steps.{bit}
-use Rattle.pim_prove.specs.Clean.{unset_from, unset_of}
+use Rattle.pim_prove.specs.Clean.{unset_of}
+use Rattle.pim_prove.specs.inner.Marks.{unset_from}
 use Rattle.pim_prove.proofs.unset.find_unset.Given as goal
 
 -- the first of the instructions that are left is the first of all
