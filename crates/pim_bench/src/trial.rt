@@ -37,7 +37,7 @@ pub(crate) fn count_wrong(alloc: Global, program: &Program, bits: u32) -> Result
 {
     let mut trial = Trial::new(alloc, program, bits)?;
     let mut wrong = 0;
-    for k in 0..ROWS / LANES {
+    for _tile in 0..ROWS / LANES {
         wrong += trial.wrong_of_next();
     }
     Ok(wrong)

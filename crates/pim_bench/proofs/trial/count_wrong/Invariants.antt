@@ -5,9 +5,9 @@ use Rattle.pim_bench.proofs.Rows.{wrong_in}
 use Rattle.pim_bench.proofs.trial.count_wrong.Given as goal
 
 -- the wrong answers so far and those of the rows that are left are all
-abbrev pub invariant-loop-k : goal.invariant-loop-k
-invariant-loop-k l = record {
-  wrong : l.wrong + wrong_in l.program (ROWS - l.k * LANES) l.trial.row ≡ wrong_of l.program l.bits;
-  few : l.wrong ≤ l.k * LANES;
+abbrev pub invariant-loop-tile : goal.invariant-loop-tile
+invariant-loop-tile l = record {
+  wrong : l.wrong + wrong_in l.program (ROWS - l._tile * LANES) l.trial.row ≡ wrong_of l.program l.bits;
+  few : l.wrong ≤ l._tile * LANES;
   program : l.trial.program ≡ l.program;
 }
