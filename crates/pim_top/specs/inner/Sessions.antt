@@ -1,12 +1,11 @@
 -- Inner: where the obeying of a debugger's lines stands, and how it goes on.
-use Rattle.std.specs.Prelude.{◌≡◌, ◌⊎◌, ℕ, ◌≤◌, Bool, true, false, List, [], ◌++◌, length, Option, None, Some}
+use Rattle.std.specs.Prelude.{◌≡◌, ℕ, Bool, true, false, List, Option, None, Some}
 use Rattle.pim_debug.specs.States.{SessionView}
 use Rattle.pim_debug.specs.declared.fault.DebugFault.{DebugFault}
 use Rattle.pim_debug.specs.declared.fault.DebugFault.TheVariants as debug
 use Rattle.pim_debug.specs.declared.reply.Reply.{Reply}
 use Rattle.pim_debug.specs.declared.reply.Reply.TheVariants as reply
 use Rattle.pim_io.specs.Outside.{Rose, TookAll, TookFirst}
-use Rattle.pim_io.specs.declared.limits.TheConstants.{MAX_INPUT}
 use Rattle.pim_isa.specs.Programs.{ProgramView}
 use Rattle.pim_isa.specs.declared.target.Fill.{Fill}
 use Rattle.pim_vectors.specs.Lines.{lines}
@@ -14,7 +13,6 @@ use Rattle.pim_vectors.specs.Next.{LinesView}
 use Rattle.pim_vectors.specs.declared.fault.LinesFault.{LinesFault}
 use Rattle.pim_vectors.specs.declared.fault.LinesFault.TheVariants as fault
 use Rattle.pim_top.specs.Debugging.{DebuggedAll, DebuggedFront, DebuggedPart, DebuggedShort, Runs, longest_of}
-use Rattle.pim_top.specs.Judged.{last_piece}
 use Rattle.pim_top.specs.declared.judgement.Judgement.TheVariants as judgement
 use Rattle.pim_top.specs.declared.refusal.Origin.TheVariants as origin
 use Rattle.pim_top.specs.declared.refusal.Refusal.{Refusal}
