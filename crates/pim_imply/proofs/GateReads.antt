@@ -57,7 +57,8 @@ gate_from g (l ∷ ls) y h = elim (bool_cases (is_input g l)) [
       ]
 ]
 
-has_split : (xs : List ℕ) (x y : ℕ) → has (xs ++ x ∷ []) y ≡ true → (has xs y ≡ true) ⊎ (x ≡ y)
+-- what a list with one number more has
+pub has_split : (xs : List ℕ) (x y : ℕ) → has (xs ++ x ∷ []) y ≡ true → (has xs y ≡ true) ⊎ (x ≡ y)
 has_split [] x y h = elim (eqb_tells x y) [
   | inl t ↦ inr t.1
   | inr f ↦ absurd (false≢true (sym (ap (λ (b : Bool). b || false) f.0) ∙ h))

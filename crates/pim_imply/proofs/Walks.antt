@@ -1,7 +1,7 @@
 -- The row after the gates up to a place: each gate that is needed there has its value in its cell.
 use Rattle.std.proofs.Common.{◌≡◌, ◌≢◌, ◌⊎◌, ℕ, zero, suc, ◌+◌, ◌-◌, ◌*◌, ◌/◌, ◌%◌, ◌<◌, ◌≤◌, Bool, true, false, cond, eqb, nat_lt, nat_le, ◌&&◌, ◌||◌, not, List, [], ◌∷◌, ◌++◌, length, map, flat_map, get_or, take, drop, All, Some, refl, sym, ◌∙◌, ap, subst, arith, inl, inr}
 use Rattle.std.specs.List.{list_all, AllByRecursion}
-use Rattle.std.proofs.lemmas.Bool.{false≢true}
+use Rattle.std.proofs.lemmas.Bool.{false≢true, and_parts, eqb-true, leb-true, ltb-true}
 use Rattle.std.proofs.lemmas.Bool.Decides.{nat_tests, eqb_tells}
 use Rattle.std.proofs.lemmas.List.{drop_more, take_more, flat_map_more, get_or-take}
 use Rattle.std.proofs.Math.Seq.{take-length}
@@ -18,7 +18,7 @@ use Rattle.pim_imply.specs.Gates.{gates, imply_graph, is_input, operands, turned
 use Rattle.pim_imply.specs.Machines.{iexec}
 use Rattle.pim_imply.specs.Schedules.{cell_of, gate_instrs, schedule}
 use Rattle.pim_imply.proofs.Literals.{lit, bool_cases, turned_twice, kind_of, gate_value, even_value, input_value}
-use Rattle.pim_imply.proofs.GateReads.{or_true, kids_at, gate_has, reached_takes, turned_below}
+use Rattle.pim_imply.proofs.GateReads.{or_true, has_split, kids_at, gate_has, reached_takes, turned_below}
 use Rattle.pim_imply.proofs.Rows.{iexec_length, iexec_append, nand_gives, nand_off}
 
 all_has : (P : ℕ → Type 0) (xs : List ℕ) (x : ℕ) → All P xs → has xs x ≡ true → P x
@@ -26,19 +26,6 @@ all_has P [] x all h = absurd (false≢true h)
 all_has P (y ∷ ys) x all h = elim (eqb_tells y x) [
   | inl t ↦ subst P t.1 (all 0 x (omega arith))
   | inr f ↦ all_has P ys x (λ k d l. all (suc k) d (omega arith)) (sym (ap (λ (b : Bool). b || has ys x) f.0) ∙ h)
-]
-
-has_split : (xs : List ℕ) (x y : ℕ) → has (xs ++ x ∷ []) y ≡ true → (has xs y ≡ true) ⊎ (x ≡ y)
-has_split [] x y h = elim (eqb_tells x y) [
-  | inl t ↦ inr t.1
-  | inr f ↦ absurd (false≢true (sym (ap (λ (b : Bool). b || false) f.0) ∙ h))
-]
-has_split (z ∷ zs) x y h = elim (eqb_tells z y) [
-  | inl t ↦ inl (ap (λ (b : Bool). b || has zs y) t.0)
-  | inr f ↦ elim (has_split zs x y (sym (ap (λ (b : Bool). b || has (zs ++ x ∷ []) y) f.0) ∙ h)) [
-    | inl q ↦ inl (ap (λ (b : Bool). b || has zs y) f.0 ∙ q)
-    | inr e ↦ inr e
-  ]
 ]
 
 -- what is known of a program's gates and their cells
@@ -71,19 +58,6 @@ has_at_place (x ∷ xs) (suc p) h = or_true (eqb x (get_or xs p 0)) (has xs (get
 eq_self : (x : ℕ) → eqb x x ≡ true
 eq_self x = grind (arith, nat_tests)
 
-both : (x y : Bool) → (x && y) ≡ true → (x ≡ true) × (y ≡ true)
-both true y h = (refl, h)
-both false y h = absurd (false≢true h)
-
-eq_is : (m n : ℕ) → eqb m n ≡ true → m ≡ n
-eq_is m n h = grind (arith, nat_tests)
-
-lt_is : (m n : ℕ) → nat_lt m n ≡ true → m < n
-lt_is m n h = grind (arith, nat_tests)
-
-le_is : (m n : ℕ) → nat_le m n ≡ true → m ≤ n
-le_is m n h = grind (arith, nat_tests)
-
 pub record IsInput (g : AigView) (l : ℕ) : Type 0 where
   pub even : l % 2 ≡ 0
   pub some : 0 < l / 2
@@ -91,9 +65,9 @@ pub record IsInput (g : AigView) (l : ℕ) : Type 0 where
 
 pub input_means : (g : AigView) (l : ℕ) → is_input g l ≡ true → IsInput g l
 input_means g l h =
-    let t = both (eqb (l % 2) 0 && nat_lt 0 (l / 2)) (nat_le (l / 2) g.inputs) h in
-    let u = both (eqb (l % 2) 0) (nat_lt 0 (l / 2)) t.0 in
-    record { even = eq_is (l % 2) 0 u.0; some = lt_is 0 (l / 2) u.1; few = le_is (l / 2) g.inputs t.1 }
+    let t = and_parts (eqb (l % 2) 0 && nat_lt 0 (l / 2)) (nat_le (l / 2) g.inputs) h in
+    let u = and_parts (eqb (l % 2) 0) (nat_lt 0 (l / 2)) t.0 in
+    record { even = eqb-true (l % 2) 0 u.0; some = ltb-true 0 (l / 2) u.1; few = leb-true (l / 2) g.inputs t.1 }
 
 front_has : (xs : List ℕ) (p y : ℕ) → has (take p xs) y ≡ true → has xs y ≡ true
 front_has [] zero y h = absurd (false≢true h)

@@ -30,7 +30,7 @@ use Rattle.pim_nor.specs.declared.network.Pin.{Pin}
 use Rattle.pim_simpler.specs.Batching.{Batched, is_work}
 use Rattle.pim_simpler.specs.Following.{Follows, nors_of}
 use Rattle.pim_simpler.specs.Needs.{order_of}
-use Rattle.pim_simpler.specs.inner.Runs.{Plan, Drafted}
+use Rattle.pim_simpler.specs.inner.Runs.{Plan, Drafted, cells_within}
 use Rattle.pim_simpler.specs.inner.Slots.{Slot, held, is_outside, start, Works}
 use Rattle.pim_simpler.proofs.Batches.{Keeping, Good, GoodInit, GoodNor, good-run}
 use Rattle.pim_simpler.proofs.Counts.{nors_counted}
@@ -65,22 +65,19 @@ planned n g items most budget end graph network placed complete needs bounds eno
     }
 
 -- the same from what the calls before it say
-pub ready : (n : NorView) (g : GraphView) (items now : List ℕ) (gates : List Gate) (many most inputs budget least : ℕ) → g ≡ graph_of n → IsNetwork n → items ≡ order_in g → length items ≡ many →
+pub ready : (n : NorView) (g : GraphView) (items now : List ℕ) (many most inputs budget : ℕ) → g ≡ graph_of n → IsNetwork n → items ≡ order_in g → length items ≡ many →
     IsPlaced g items → ((x : ℕ) → IsReached g x → among items x ≡ true) →
     ((p : ℕ) → p < many → needed g (drop (p + 1) items) (slice_index items p) ≡ true) → now ≡ items →
     ((p : ℕ) → p < length now → count_by (needed g (drop p now)) (take p now) + 1 ≤ most) → most ≤ length now →
-    length (order_in (graph_of n)) ≡ length n.gates → inputs ≡ n.inputs → inputs + most ≤ budget → gates ≡ n.gates → least ≡ min (budget - inputs) (length gates) →
-    Plan n (order_of n) (inputs + least)
-ready n g items now gates many most inputs budget least graph network is counted placed complete needs listed bounds within full count enough all cells =
+    length (order_in (graph_of n)) ≡ length n.gates → inputs ≡ n.inputs → inputs + most ≤ budget → Plan n (order_of n) (cells_within n budget)
+ready n g items now many most inputs budget graph network is counted placed complete needs listed bounds within full count enough =
     let same : items ≡ order_of n = is ∙ ap order_in graph in
     let B : List ℕ → Type 0 = λ xs. (p : ℕ) → p < length xs → count_by (needed g (drop p xs)) (take p xs) + 1 ≤ most in
     let size : length now ≡ length n.gates = ap (λ (xs : List ℕ). length xs) (listed ∙ same) ∙ full in
     let few : most ≤ length n.gates = omega arith in
     let room : n.inputs + most ≤ budget = omega arith in
-    let ends : inputs + least ≡ n.inputs + min (budget - n.inputs) (length n.gates) =
-    ap (λ (k : ℕ). inputs + k) cells ∙ (ap (λ (gs : List Gate). inputs + min (budget - inputs) (length gs)) all ∙ ap (λ (k : ℕ). k + min (budget - k) (length n.gates)) count) in
-    let F : List ℕ → Type 0 = λ xs. Plan n xs (inputs + least) in
-    subst F same (planned n g items most budget (inputs + least) graph network placed complete (λ p small. needs p (omega arith)) (subst B listed bounds) room few ends)
+    let F : List ℕ → Type 0 = λ xs. Plan n xs (cells_within n budget) in
+    subst F same (planned n g items most budget (cells_within n budget) graph network placed complete (λ p small. needs p (omega arith)) (subst B listed bounds) room few refl)
 
 -- ---- the ports
 

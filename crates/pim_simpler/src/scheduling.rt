@@ -8,8 +8,8 @@ ghost use Rattle.pim_isa.specs.declared.target.Target.TheVariants.{Magic};
 ghost use Rattle.pim_nor.specs.Network.{nor_count};
 ghost use Rattle.pim_nor.specs.Values.{out_values};
 ghost use Rattle.pim_simpler.specs.Batching.{Batched};
-ghost use Rattle.pim_simpler.specs.Following.{Follows};
-ghost use Rattle.pim_simpler.specs.inner.Runs.{Drafted, Plan};
+ghost use Rattle.pim_simpler.specs.Following.{Follows, nors_of};
+ghost use Rattle.pim_simpler.specs.inner.Runs.{Drafted, Plan, cells_within};
 ghost use Rattle.pim_simpler.specs.Needs.{needed_of, order_of, AsksAtMost, IsRefusalFor};
 
 use crate::Refusal;
@@ -54,15 +54,7 @@ pub fn schedule(alloc: Global, net: &NorNet, ports: &Ports, budget: u32) -> Resu
     ensures most { IfErr result (AsksAtMost (net.now.inputs + nor_count net.now.gates + 1)) }
     ensures roomy { IfErr result (AsksAtMost (net.now.inputs + length net.now.gates)) }
 {
-    let graph = net.graph();
-    let gates = order(alloc, graph)?;
-    let inputs = net.inputs();
-    let needed = inputs + peak(alloc, graph, &gates)?;
-    if budget < needed {
-        return Err(Refusal::TooFewCells { needed });
-    }
-    let cells = inputs + (budget - inputs).min(net.gates().len() as u32);
-    match Program::new(draft(alloc, net, ports, &gates, cells)?) {
+    match Program::new(drafted(alloc, net, ports, budget)?) {
         Ok(program) => {
             program.laws();
             net.has_values();
@@ -70,6 +62,62 @@ pub fn schedule(alloc: Global, net: &NorNet, ports: &Ports, budget: u32) -> Resu
         }
         Err(_) => unreachable!(),
     }
+}
+
+/// The draft of a schedule, if the budget has the cells that are needed.
+fn drafted(
+    alloc: Global,
+    net: &NorNet,
+    ports: &Ports,
+    budget: u32,
+) -> Result<ProgramDraft, Refusal>
+    requires inputs { length ports.now.inputs ≡ net.now.inputs }
+    requires outputs { length ports.now.outputs ≡ length net.now.outs }
+    requires within { budget ≤ MAX_CELLS }
+    ensures plan { OnOk result (Plan net.now (order_of net.now) (cells_within net.now budget)) }
+    ensures draft { IfOk result (λ draft. Drafted net.now ports.now (order_of net.now) (cells_within net.now budget) draft) }
+    ensures full { OnOk result (length (order_of net.now) ≡ length net.now.gates) }
+    ensures nors { OnOk result (length (nors_of net.now (order_of net.now)) ≡ nor_count net.now.gates) }
+    ensures accepted { OnOk result (needed_of net.now ≤ budget) }
+    ensures refused { IfErr result (IsRefusalFor (needed_of net.now) budget) }
+    ensures most { IfErr result (AsksAtMost (net.now.inputs + nor_count net.now.gates + 1)) }
+    ensures roomy { IfErr result (AsksAtMost (net.now.inputs + length net.now.gates)) }
+{
+    let gates = planned(alloc, net, budget)?;
+    let cells = cells_within(net, budget);
+    let draft = draft(alloc, net, ports, &gates, cells)?;
+    Ok(draft)
+}
+
+/// The order of a network's gates, if the budget has the cells that are needed.
+fn planned(alloc: Global, net: &NorNet, budget: u32) -> Result<Vec<u32>, Refusal>
+    ensures order { IfOk result (λ gates. gates.items ≡ order_of net.now) }
+    ensures plan { OnOk result (Plan net.now (order_of net.now) (cells_within net.now budget)) }
+    ensures full { OnOk result (length (order_of net.now) ≡ length net.now.gates) }
+    ensures nors { OnOk result (length (nors_of net.now (order_of net.now)) ≡ nor_count net.now.gates) }
+    ensures accepted { OnOk result (needed_of net.now ≤ budget) }
+    ensures refused { IfErr result (IsRefusalFor (needed_of net.now) budget) }
+    ensures most { IfErr result (AsksAtMost (net.now.inputs + nor_count net.now.gates + 1)) }
+    ensures roomy { IfErr result (AsksAtMost (net.now.inputs + length net.now.gates)) }
+{
+    let graph = net.graph();
+    let gates = order(alloc, graph)?;
+    let inputs = net.inputs();
+    let needed = inputs + peak(alloc, graph, &gates)?;
+    if budget < needed {
+        return Err(Refusal::TooFewCells { needed });
+    }
+    Ok(gates)
+}
+
+/// How many cells of a budget a schedule takes: at most one for each input and each gate.
+fn cells_within(net: &NorNet, budget: u32) -> u32
+    requires enough { net.now.inputs ≤ budget }
+    ensures cells { result ≡ cells_within net.now budget }
+    ensures within { result ≤ budget }
+{
+    let inputs = net.inputs();
+    inputs + (budget - inputs).min(net.gates().len() as u32)
 }
 
 /// How many cells a network needs: those of its inputs, and the peak of its order. It takes n log n for n gates.

@@ -1,5 +1,5 @@
 -- Inner: what a schedule may emit for the gates that are left, one after another, and what a whole run is.
-use Rattle.std.specs.Prelude.{◌≡◌, ℕ, ◌+◌, ◌-◌, ◌<◌, ◌≤◌, true, false, List, [], ◌∷◌, ◌++◌, count_by, drop, length, slice_index, take}
+use Rattle.std.specs.Prelude.{◌≡◌, ℕ, ◌+◌, ◌-◌, ◌<◌, ◌≤◌, true, false, List, [], ◌∷◌, ◌++◌, count_by, drop, length, min, slice_index, take}
 use Rattle.std.specs.List.{range_with_len}
 use Rattle.pim_graph.specs.Graphs.{has as among}
 use Rattle.pim_graph.specs.Peaks.{IsPlaced, needed}
@@ -44,6 +44,10 @@ pub data Run (n : NorView) : (ℕ → Slot) → List ℕ → List ℕ → List I
       IsNext n placed g later → is_nor (gate_at n g) ≡ false → IsLeast slots t →
       Run n (settled n (needed (graph_of n) later) (put t g slots)) (placed ++ g ∷ []) later is last →
       Run n slots placed (g ∷ later) is last
+
+-- the cells that a schedule has of a budget: one for each input, and one for each gate as far as they go
+abbrev pub cells_within : NorView → ℕ → ℕ
+cells_within n budget = n.inputs + min (budget - n.inputs) (length n.gates)
 
 -- what a run rests on: the order holds gates of the network, each after those that it reads and needed behind its place,
 -- the roots among them, and the cells are enough for what it holds at once
