@@ -19,7 +19,8 @@ use Rattle.pim_rm3.specs.Gates.{gate_graph, gates}
 use Rattle.pim_rm3.specs.Schedules.{output_cell, output_ports, program_of, schedule}
 use Rattle.pim_rm3.proofs.Counts.{ports_hold}
 use Rattle.pim_rm3.proofs.Fitting.{Fits, all_get, fits_valid, fits_writes, schedule_fits}
-use Rattle.pim_rm3.proofs.Walks.{IsSettled, output_holds, output_within}
+use Rattle.pim_rm3.specs.inner.Settled.{IsSettled}
+use Rattle.pim_rm3.proofs.Walks.{output_holds, output_within}
 
 -- each reached gate is in the order
 abbrev pub IsComplete : AigView → Type 0

@@ -26,7 +26,8 @@ use Rattle.pim_rm3.proofs.GateKinds.Kind.{constant, inverse, input, meet}
 use Rattle.pim_rm3.proofs.GateOrders.{taken_map}
 use Rattle.pim_rm3.proofs.Stepping.{read_needed}
 use Rattle.pim_rm3.proofs.Rows.{bool_cases, load_is, narrow_by_is}
-use Rattle.pim_rm3.proofs.Walks.{IsSettled, cell_input, cell_gate, none_some, option_cases, not_input}
+use Rattle.pim_rm3.specs.inner.Settled.{IsSettled}
+use Rattle.pim_rm3.proofs.Walks.{cell_input, cell_gate, none_some, option_cases, not_input}
 
 -- an operand is a constant, or a cell of the program other than the target
 abbrev pub FitsOperand : ℕ → ℕ → Operand → Type 0

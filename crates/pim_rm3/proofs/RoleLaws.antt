@@ -1,11 +1,9 @@
 -- What the roles are that cost least.
-use Rattle.std.proofs.Common.{◌≡◌, ◌⊎◌, ℕ, ◌+◌, ◌/◌, ◌%◌, ◌<◌, ◌≤◌, Bool, true, false, cond, eqb, nat_lt, ◌&&◌, List, [], ◌∷◌, get_or, length, All, refl, sym, ◌∙◌, ap, arith, inl, inr}
-use Rattle.std.proofs.lemmas.Bool.{false≢true}
+use Rattle.std.proofs.Common.{◌≡◌, ℕ, ◌+◌, ◌/◌, ◌%◌, ◌<◌, ◌≤◌, zero, suc, Bool, true, false, cond, eqb, nat_lt, ◌&&◌, List, [], ◌∷◌, fold, get_or, All, ap, arith, inl, inr}
 use Rattle.std.proofs.lemmas.Bool.Decides.{nat_tests}
-use Rattle.std.proofs.lemmas.List.Elements.{All-cons}
 use Rattle.pim_aig.specs.declared.literal.Lit.{Lit}
 use Rattle.pim_mig.specs.declared.node.Maj.{Maj}
-use Rattle.pim_rm3.specs.Roles.{cheaper, first_cost, is_plain, least_role, role, role_cost, roles, second_cost, third_cost}
+use Rattle.pim_rm3.specs.Roles.{cheaper, first_cost, is_plain, least_of, least_role, role, role_cost, roles, second_cost, third_cost}
 use Rattle.pim_rm3.specs.Schedules.{is_inverted}
 use Rattle.pim_rm3.specs.declared.role.Role.{Role}
 use Rattle.pim_rm3.proofs.Rows.{bool_cases}
@@ -17,20 +15,27 @@ one_of P false r s p q = p
 one_of_two : (P : Role → Type 0) (r s : Role) → P r → P s → P (cheaper r s)
 one_of_two P r s p q = one_of P (nat_lt (role_cost s) (role_cost r)) r s p q
 
+-- what holds of a role and of these holds of the first of them that costs least
+least_holds : (P : Role → Type 0) (r : Role) (rs : List Role) → P r → All P rs → P (fold cheaper r rs)
+least_holds P r [] p all = p
+least_holds P r (s ∷ rs) p all = least_holds P (cheaper r s) rs (one_of_two P r s p (all 0 r (omega arith))) (λ k d l. all (suc k) d (omega arith))
+
+least_of_holds : (P : Role → Type 0) (r : Role) (rs : List Role) → P r → All P rs → P (least_of r rs)
+least_of_holds P r [] p all = p
+least_of_holds P r (s ∷ rs) p all = least_holds P s rs (all 0 r (omega arith)) (λ k d l. all (suc k) d (omega arith))
+
+all_roles : (P : Role → Type 0) (m : Maj) (x y z : Bool) → P (role m.x m.y m.z z) → P (role m.x m.z m.y y) → P (role m.y m.x m.z z) → P (role m.y m.z m.x x) → P (role m.z m.x m.y y) → P (role m.z m.y m.x x) → (k : ℕ) (q : Role) → k < 6 → P (get_or (roles m x y z) k q)
+all_roles P m x y z a b d e f h zero q l = a
+all_roles P m x y z a b d e f h (suc zero) q l = b
+all_roles P m x y z a b d e f h (suc (suc zero)) q l = d
+all_roles P m x y z a b d e f h (suc (suc (suc zero))) q l = e
+all_roles P m x y z a b d e f h (suc (suc (suc (suc zero)))) q l = f
+all_roles P m x y z a b d e f h (suc (suc (suc (suc (suc zero))))) q l = h
+all_roles P m x y z a b d e f h (suc (suc (suc (suc (suc (suc k)))))) q l = absurd (omega arith)
+
 -- what holds of all the roles holds of those that cost least
 pub least_in : (P : Role → Type 0) (m : Maj) (x y z : Bool) → P (role m.x m.y m.z z) → P (role m.x m.z m.y y) → P (role m.y m.x m.z z) → P (role m.y m.z m.x x) → P (role m.z m.x m.y y) → P (role m.z m.y m.x x) → P (least_role m x y z)
-least_in P m x y z a b d e f h =
-    let r1 = role m.x m.y m.z z in
-    let r2 = role m.x m.z m.y y in
-    let r3 = role m.y m.x m.z z in
-    let r4 = role m.y m.z m.x x in
-    let r5 = role m.z m.x m.y y in
-    let r6 = role m.z m.y m.x x in
-    let s2 = cheaper r1 r2 in
-    let s3 = cheaper s2 r3 in
-    let s4 = cheaper s3 r4 in
-    let s5 = cheaper s4 r5 in
-    one_of_two P s5 r6 (one_of_two P s4 r5 (one_of_two P s3 r4 (one_of_two P s2 r3 (one_of_two P r1 r2 a b) d) e) f) h
+least_in P m x y z a b d e f h = least_of_holds P (role m.x m.y m.z z) (roles m x y z) a (all_roles P m x y z a b d e f h)
 
 through : (a b c : ℕ) → a ≤ b → b ≤ c → a ≤ c
 through a b c h k = omega arith
@@ -53,67 +58,23 @@ second_lasts r s = elim (bool_cases (nat_lt (role_cost s) (role_cost r))) [
       omega arith
 ]
 
--- none of the roles costs less
-pub record IsLeast (m : Maj) (x y z : Bool) (n : ℕ) : Type 0 where
-  pub a : n ≤ role_cost (role m.x m.y m.z z)
-  pub b : n ≤ role_cost (role m.x m.z m.y y)
-  pub d : n ≤ role_cost (role m.y m.x m.z z)
-  pub e : n ≤ role_cost (role m.y m.z m.x x)
-  pub f : n ≤ role_cost (role m.z m.x m.y y)
-  pub h : n ≤ role_cost (role m.z m.y m.x x)
+-- none of these costs less than the first of them that costs least
+least_first : (r : Role) (rs : List Role) → role_cost (fold cheaper r rs) ≤ role_cost r
+least_first r [] = omega arith
+least_first r (s ∷ rs) = through (role_cost (fold cheaper (cheaper r s) rs)) (role_cost (cheaper r s)) (role_cost r) (least_first (cheaper r s) rs) (first_lasts r s)
 
-pub least_is : (m : Maj) (x y z : Bool) → IsLeast m x y z (role_cost (least_role m x y z))
-least_is m x y z =
-    let r1 = role m.x m.y m.z z in
-    let r2 = role m.x m.z m.y y in
-    let r3 = role m.y m.x m.z z in
-    let r4 = role m.y m.z m.x x in
-    let r5 = role m.z m.x m.y y in
-    let r6 = role m.z m.y m.x x in
-    let s2 = cheaper r1 r2 in
-    let s3 = cheaper s2 r3 in
-    let s4 = cheaper s3 r4 in
-    let s5 = cheaper s4 r5 in
-    let p2 = first_lasts r1 r2 in
-    let q2 = second_lasts r1 r2 in
-    let p3 = first_lasts s2 r3 in
-    let q3 = second_lasts s2 r3 in
-    let p4 = first_lasts s3 r4 in
-    let q4 = second_lasts s3 r4 in
-    let p5 = first_lasts s4 r5 in
-    let q5 = second_lasts s4 r5 in
-    let p6 = first_lasts s5 r6 in
-    let q6 = second_lasts s5 r6 in
-    let t5 : role_cost (cheaper s5 r6) ≤ role_cost r5 = through (role_cost (cheaper s5 r6)) (role_cost s5) (role_cost r5) p6 q5 in
-    let u4 : role_cost (cheaper s5 r6) ≤ role_cost s4 = through (role_cost (cheaper s5 r6)) (role_cost s5) (role_cost s4) p6 p5 in
-    let t4 : role_cost (cheaper s5 r6) ≤ role_cost r4 = through (role_cost (cheaper s5 r6)) (role_cost s4) (role_cost r4) u4 q4 in
-    let u3 : role_cost (cheaper s5 r6) ≤ role_cost s3 = through (role_cost (cheaper s5 r6)) (role_cost s4) (role_cost s3) u4 p4 in
-    let t3 : role_cost (cheaper s5 r6) ≤ role_cost r3 = through (role_cost (cheaper s5 r6)) (role_cost s3) (role_cost r3) u3 q3 in
-    let u2 : role_cost (cheaper s5 r6) ≤ role_cost s2 = through (role_cost (cheaper s5 r6)) (role_cost s3) (role_cost s2) u3 p3 in
-    let t2 : role_cost (cheaper s5 r6) ≤ role_cost r2 = through (role_cost (cheaper s5 r6)) (role_cost s2) (role_cost r2) u2 q2 in
-    let t1 : role_cost (cheaper s5 r6) ≤ role_cost r1 = through (role_cost (cheaper s5 r6)) (role_cost s2) (role_cost r1) u2 p2 in
-    record { a = t1; b = t2; d = t3; e = t4; f = t5; h = q6 }
+least_each : (r : Role) (rs : List Role) → All (λ s. role_cost (fold cheaper r rs) ≤ role_cost s) rs
+least_each r [] k d l = absurd (omega arith)
+least_each r (s ∷ rs) zero d l = through (role_cost (fold cheaper (cheaper r s) rs)) (role_cost (cheaper r s)) (role_cost s) (least_first (cheaper r s) rs) (second_lasts r s)
+least_each r (s ∷ rs) (suc k) d l = least_each (cheaper r s) rs k d (omega arith)
 
-no_role : (n : ℕ) → All (λ r. n ≤ role_cost r) []
-no_role n = λ k d l. absurd (omega arith)
+least_of_each : (r : Role) (rs : List Role) → All (λ s. role_cost (least_of r rs) ≤ role_cost s) rs
+least_of_each r [] k d l = absurd (omega arith)
+least_of_each r (s ∷ rs) zero d l = least_first s rs
+least_of_each r (s ∷ rs) (suc k) d l = least_each s rs k d (omega arith)
 
 pub least_all : (m : Maj) (x y z : Bool) → All (λ r. role_cost (least_role m x y z) ≤ role_cost r) (roles m x y z)
-least_all m x y z =
-    let n = role_cost (least_role m x y z) in
-    let P : Role → Type 0 = λ r. n ≤ role_cost r in
-    let t = least_is m x y z in
-    let r1 = role m.x m.y m.z z in
-    let r2 = role m.x m.z m.y y in
-    let r3 = role m.y m.x m.z z in
-    let r4 = role m.y m.z m.x x in
-    let r5 = role m.z m.x m.y y in
-    let r6 = role m.z m.y m.x x in
-    All-cons P r1 (r2 ∷ (r3 ∷ (r4 ∷ (r5 ∷ (r6 ∷ []))))) t.a
-    (All-cons P r2 (r3 ∷ (r4 ∷ (r5 ∷ (r6 ∷ [])))) t.b
-    (All-cons P r3 (r4 ∷ (r5 ∷ (r6 ∷ []))) t.d
-    (All-cons P r4 (r5 ∷ (r6 ∷ [])) t.e
-    (All-cons P r5 (r6 ∷ []) t.f
-    (All-cons P r6 [] t.h (no_role n))))))
+least_all m x y z = least_of_each (role m.x m.y m.z z) (roles m x y z)
 
 -- the first two in turned roles
 abbrev turned : Role → Role
@@ -121,8 +82,9 @@ turned r = role r.q r.p r.z r.over
 
 least_turned : (m : Maj) (x y z : Bool) → role_cost (least_role m x y z) ≤ role_cost (turned (least_role m x y z))
 least_turned m x y z =
-    let t = least_is m x y z in
-    least_in (λ r. role_cost (least_role m x y z) ≤ role_cost (turned r)) m x y z t.d t.f t.a t.h t.b t.e
+    let at : (k : ℕ) → k < 6 → role_cost (least_role m x y z) ≤ role_cost (get_or (roles m x y z) k (least_role m x y z)) = λ k l. least_all m x y z k (least_role m x y z) l in
+    least_in (λ r. role_cost (least_role m x y z) ≤ role_cost (turned r)) m x y z
+    (at 2 (omega arith)) (at 4 (omega arith)) (at 0 (omega arith)) (at 5 (omega arith)) (at 1 (omega arith)) (at 3 (omega arith))
 
 plain_not_inverted : (e : Lit) → is_plain e ≡ true → is_inverted e ≡ false
 plain_not_inverted e h =

@@ -1,20 +1,19 @@
 -- The row after the gates up to a place: each gate that is needed there has its value in its cell.
 use Rattle.std.proofs.Common.{◌≡◌, ◌≢◌, ◌⊎◌, ℕ, zero, suc, ◌+◌, ◌-◌, ◌*◌, ◌/◌, ◌%◌, ◌<◌, ◌≤◌, Bool, true, false, cond, eqb, nat_le, nat_lt, ◌&&◌, ◌||◌, List, [], ◌∷◌, ◌++◌, length, get_or, take, drop, fold, map, flat_map, All, Option, Some, None, refl, sym, ◌∙◌, ap, subst, arith, inl, inr}
-use Rattle.std.proofs.lemmas.Bool.{false≢true}
+use Rattle.std.proofs.lemmas.Bool.{false≢true, and_parts, eqb-true, leb-true, ltb-true}
 use Rattle.std.proofs.lemmas.Bool.Decides.{nat_tests, eqb_tells, leb_tells}
 use Rattle.std.proofs.lemmas.List.{drop_more, take_more, flat_map_more, get_or-take}
 use Rattle.std.proofs.lemmas.List.FromFn.{length-map-range_with_len}
 use Rattle.std.proofs.Math.ListN.{drop_of_length-le}
 use Rattle.std.proofs.Math.Seq.{take-length}
-use Rattle.pim_aig.specs.Graph.{AigView, IsAig, nodes}
-use Rattle.pim_aig.specs.Laws.{ValueLaws}
+use Rattle.pim_aig.specs.Graph.{AigView, nodes}
 use Rattle.pim_aig.specs.Values.{aval, node_values}
 use Rattle.pim_aig.specs.declared.literal.Lit.{Lit}
-use Rattle.pim_graph.specs.Allotments.{AllotmentView, IsAllotment, IsOver, taken_at}
+use Rattle.pim_graph.specs.Allotments.{AllotmentView, taken_at}
 use Rattle.pim_graph.specs.Graphs.{has, kids_of}
 use Rattle.pim_graph.specs.Orders.{IsReached}
 use Rattle.pim_graph.specs.Orders.IsReached.{as_root, as_child}
-use Rattle.pim_graph.specs.Peaks.{IsPlaced, needed, read_by}
+use Rattle.pim_graph.specs.Peaks.{needed, read_by}
 use Rattle.pim_isa.specs.Laws.{ExecLaws}
 use Rattle.pim_isa.specs.Steps.{bit, exec}
 use Rattle.pim_isa.specs.declared.instr.Instr.{Instr}
@@ -22,6 +21,7 @@ use Rattle.pim_rm3.specs.Gates.{ands_read, gate_graph, gate_of, gates, is_input,
 use Rattle.pim_rm3.specs.Schedules.{cell_of, gate_instrs, instrs_at, load, narrow, output_cell, schedule}
 use Rattle.pim_rm3.specs.declared.gate.Gate.{Gate}
 use Rattle.pim_rm3.specs.declared.gate.Gate.TheVariants as gate
+use Rattle.pim_rm3.specs.inner.Settled.{IsSettled}
 use Rattle.pim_rm3.proofs.Lists.{all_has, split, last, has_whole, has_front}
 use Rattle.pim_rm3.proofs.GateKinds.{Kind, kind_of, kids_at, and_of, first_read, second_read, inverse_read, node_value, lit_value, plain_value, zero_value, input_value, meet_value, constant_value}
 use Rattle.pim_rm3.proofs.GateKinds.Kind.{constant, inverse, input, meet}
@@ -29,16 +29,6 @@ use Rattle.pim_rm3.proofs.GateOrders.{IsTakenOver, taken_over, taken_map}
 use Rattle.pim_rm3.proofs.GateOrders.IsTakenOver.{by_first, by_second}
 use Rattle.pim_rm3.proofs.Stepping.{Computes, HoldsAt, IsSound, Placing, Reads, all_held, read_before, read_needed}
 use Rattle.pim_rm3.proofs.Rows.{and_turns, bool_cases, lit_bit, lit_same, load_gives, load_off, narrow_gives, narrow_off, set_gives, set_off}
-
--- what is known of a program's gates and their cells
-pub record IsSettled (g : AigView) (a : AllotmentView) : Type 0 where
-  pub small : IsAig g
-  pub values : ValueLaws g
-  pub placed : IsPlaced (gate_graph g) (gates g)
-  pub there : All (λ l. l < 2 * nodes g) (gates g)
-  pub reached : All (IsReached (gate_graph g)) (gates g)
-  pub over : IsOver (gate_graph g) (gates g) (map (taken g) (gates g))
-  pub allotted : IsAllotment (gate_graph g) (gates g) (map (taken g) (gates g)) g.inputs a
 
 -- the gates of a graph with these cells
 abbrev pub placing : AigView → AllotmentView → Placing
@@ -323,24 +313,11 @@ pub record IsInput (ins : ℕ) (o : Lit) : Type 0 where
   pub some : 0 < o.0 / 2
   pub few : o.0 / 2 ≤ ins
 
-both : (x y : Bool) → (x && y) ≡ true → (x ≡ true) × (y ≡ true)
-both true y h = (refl, h)
-both false y h = absurd (false≢true h)
-
-eq_is : (m n : ℕ) → eqb m n ≡ true → m ≡ n
-eq_is m n h = grind (arith, nat_tests)
-
-lt_is : (m n : ℕ) → nat_lt m n ≡ true → m < n
-lt_is m n h = grind (arith, nat_tests)
-
-le_is : (m n : ℕ) → nat_le m n ≡ true → m ≤ n
-le_is m n h = grind (arith, nat_tests)
-
 pub input_means : (ins : ℕ) (o : Lit) → is_input ins o ≡ true → IsInput ins o
 input_means ins o h =
-    let t = both (eqb (o.0 % 2) 0 && nat_lt 0 (o.0 / 2)) (nat_le (o.0 / 2) ins) h in
-    let u = both (eqb (o.0 % 2) 0) (nat_lt 0 (o.0 / 2)) t.0 in
-    record { even = eq_is (o.0 % 2) 0 u.0; some = lt_is 0 (o.0 / 2) u.1; few = le_is (o.0 / 2) ins t.1 }
+    let t = and_parts (eqb (o.0 % 2) 0 && nat_lt 0 (o.0 / 2)) (nat_le (o.0 / 2) ins) h in
+    let u = and_parts (eqb (o.0 % 2) 0) (nat_lt 0 (o.0 / 2)) t.0 in
+    record { even = eqb-true (o.0 % 2) 0 u.0; some = ltb-true 0 (o.0 / 2) u.1; few = leb-true (o.0 / 2) ins t.1 }
 
 -- an output lies where the program says, with its value
 pub output_holds : (g : AigView) (a : AllotmentView) (bits m : List Bool) (k : ℕ) (d : Lit) → IsSettled g a → ExecLaws → ((y : ℕ) → IsReached (gate_graph g) y → has (gates g) y ≡ true) → length bits ≡ g.inputs → a.width ≤ length m → take g.inputs m ≡ bits → k < length g.outputs → bit (exec (schedule g a.cells) m) (output_cell g.inputs a.cells (get_or g.outputs k d)) ≡ aval g bits (get_or g.outputs k d)

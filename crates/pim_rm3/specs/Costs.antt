@@ -1,6 +1,7 @@
 -- How many cycles the gates of a graph take, and how many cells.
-use Rattle.std.specs.Prelude.{ℕ, ◌+◌, ◌/◌, ◌%◌, ◌==◌, ◌||◌, Bool, Option, Some, None, count_by, length, sum_by}
+use Rattle.std.specs.Prelude.{ℕ, ◌+◌, ◌/◌, ◌%◌, ◌==◌, ◌||◌, Bool, Option, Some, None, count_by, length, map, sum_by}
 use Rattle.pim_aig.specs.Graph.{AigView}
+use Rattle.pim_graph.specs.Allotments.{cells_along}
 use Rattle.pim_graph.specs.Peaks.{peak}
 use Rattle.pim_rm3.specs.declared.gate.Gate.{Gate}
 use Rattle.pim_rm3.specs.declared.gate.Gate.TheVariants as gate
@@ -21,6 +22,10 @@ rm3_cost g = sum_by (λ l. cost_of (taken g l) (gate_of g l)) (gates g)
 -- the cells of the inputs, and as many as the order of the gates holds values at once
 abbrev pub needed_of : AigView → ℕ
 needed_of g = g.inputs + peak (gate_graph g) (gates g)
+
+-- the cells of the schedule: those of the inputs, and as many as are in use at once, where some take another's over
+abbrev pub cells_of : AigView → ℕ
+cells_of g = g.inputs + cells_along (gate_graph g) (gates g) (map (taken g) (gates g))
 
 -- the literal is a complement or a constant, and so takes a gate of its own where it is an output
 abbrev pub is_made : ℕ → Bool

@@ -19,3 +19,13 @@ AsksAtMost most NoMemory = Unit {0}
 abbrev pub IsUnfitFor : ℕ → ℕ → SmartFault → Type 0
 IsUnfitFor most budget (fault.Unfit cells told) = (told ≡ budget) × (budget < cells) × (cells ≤ most)
 IsUnfitFor most budget fault.NoMemory = Unit {0}
+
+-- a refusal for too few cells comes only where the budget is below the schedule's own cells
+abbrev pub IsTooWideFor : ℕ → ℕ → Refusal → Type 0
+IsTooWideFor cells budget (TooFewCells told) = budget < cells
+IsTooWideFor cells budget NoMemory = Unit {0}
+
+-- a schedule that does not fit is told with its own cells
+abbrev pub TellsCells : ℕ → SmartFault → Type 0
+TellsCells cells (fault.Unfit told budget) = told ≡ cells
+TellsCells cells fault.NoMemory = Unit {0}

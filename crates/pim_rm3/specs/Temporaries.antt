@@ -3,6 +3,7 @@
 use Rattle.std.specs.Prelude.{ℕ, ◌+◌, ◌*◌, ◌/◌, ◌%◌, ◌==◌, nat_lt, Bool, if◌then◌else◌, List, [], ◌∷◌, ◌++◌, flat_map, fold, map, Option, Some, None}
 use Rattle.std.specs.List.{range_with_len}
 use Rattle.pim_aig.specs.declared.literal.Lit.{Lit}
+use Rattle.pim_graph.specs.Allotments.{cells_along}
 use Rattle.pim_graph.specs.Graphs.{GraphView, has}
 use Rattle.pim_mig.specs.Graph.{MigView, size}
 use Rattle.pim_rm3.specs.Roles.{temporary}
@@ -88,3 +89,7 @@ takes_of g l = temporary_takes (temporary_of (step_of g l)) ++ step_takes (step_
 -- for each gate of the full order the gate whose cell it takes over, if it takes one over
 abbrev pub full_over : MigView → List (Option ℕ)
 full_over g = flat_map (takes_of g) (mig_gates g)
+
+-- the cells of the schedule: those of the inputs, and as many as the gates and temporaries use at once
+abbrev pub smart_cells : MigView → ℕ
+smart_cells g = g.inputs + cells_along (full_graph g) (full_order g) (full_over g)

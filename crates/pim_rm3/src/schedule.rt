@@ -1,7 +1,6 @@
 ghost use Rattle.std.specs.Prelude.{◌≡◌, ◌*◌, ◌^◌, ◌<◌, ◌≤◌, ℕ, true, All, Bool, List, length, map, IfOk, IfErr, OnOk};
-ghost use Rattle.pim_aig.specs.Graph.{IsAig, nodes};
+ghost use Rattle.pim_aig.specs.Graph.{nodes};
 ghost use Rattle.pim_aig.specs.Values.{aval};
-ghost use Rattle.pim_graph.specs.Allotments.{IsAllotment, IsOver};
 ghost use Rattle.pim_graph.specs.Graphs.{has};
 ghost use Rattle.pim_graph.specs.Orders.{IsReached};
 ghost use Rattle.pim_graph.specs.Peaks.{IsPlaced};
@@ -9,10 +8,11 @@ ghost use Rattle.pim_isa.specs.PortLists.{labels_of};
 ghost use Rattle.pim_isa.specs.Primed.{IsPrimed};
 ghost use Rattle.pim_isa.specs.Realizes.{Realizes};
 ghost use Rattle.pim_isa.specs.declared.target.Target.TheVariants as target_is;
-ghost use Rattle.pim_rm3.specs.Costs.{coarse_of, needed_of, rm3_cost};
+ghost use Rattle.pim_rm3.specs.Costs.{cells_of, coarse_of, needed_of, rm3_cost};
 ghost use Rattle.pim_rm3.specs.Gates.{gate_graph, gates, taken};
-ghost use Rattle.pim_rm3.specs.Refusals.{AsksAtMost, IsRefusalFor};
+ghost use Rattle.pim_rm3.specs.Refusals.{AsksAtMost, IsRefusalFor, IsTooWideFor};
 ghost use Rattle.pim_rm3.specs.Schedules.{program_of};
+ghost use Rattle.pim_rm3.specs.inner.Settled.{IsSettled};
 
 use crate::Refusal;
 use crate::emit::add_gates;
@@ -36,8 +36,8 @@ struct Plan {
 
 /// Schedules a graph in at most `budget` cells. Input k stands in cell k, and no instruction writes it.
 ///
-/// `TooFewCells` comes only where the budget is below `needed`, which is the inputs and as many cells as the order of the
-/// gates holds values at once. Near linear in the graph.
+/// `TooFewCells` comes only where the schedule takes more cells than the budget has. It names `needed`, which is the inputs and as
+/// many cells as the order of the gates holds values at once, and never less than what the schedule takes. Near linear in the graph.
 pub fn base(alloc: Global, aig: &Aig, ports: &Ports, budget: u32) -> Result<Program, Refusal>
     requires inputs { length ports.now.inputs ≡ aig.now.inputs }
     requires outputs { length ports.now.outputs ≡ length aig.now.outputs }
@@ -48,13 +48,14 @@ pub fn base(alloc: Global, aig: &Aig, ports: &Ports, budget: u32) -> Result<Prog
     ensures target { IfOk result (λ program. program.target ≡ target_is.Plim) }
     ensures labels { IfOk result (λ program. labels_of program.outputs ≡ ports.now.outputs) }
     ensures cells { IfOk result (λ program. program.cells ≤ budget) }
+    ensures width { IfOk result (λ program. program.cells ≡ cells_of aig.now) }
     ensures needed { IfOk result (λ program. program.cells ≤ needed_of aig.now) }
     ensures cycles { IfOk result (λ program. length program.instrs ≡ rm3_cost aig.now) }
     ensures primed { IfOk result (λ program. IsPrimed program.instrs) }
     ensures refused { IfErr result (IsRefusalFor (needed_of aig.now) budget) }
+    ensures unfit { IfErr result (IsTooWideFor (cells_of aig.now) budget) }
     ensures most { IfErr result (AsksAtMost (coarse_of aig.now)) }
 {
-    aig.has_values();
     let plan = match planned(alloc, aig) {
         Ok(plan) => plan,
         Err(NoMemory) => return Err(Refusal::NoMemory),
@@ -79,19 +80,16 @@ pub fn base(alloc: Global, aig: &Aig, ports: &Ports, budget: u32) -> Result<Prog
 /// The order of a graph's gates, what they take over, and their cells.
 fn planned(alloc: Global, aig: &Aig) -> Result<Plan, NoMemory>
     ensures order { IfOk result (λ plan. plan.order.items ≡ gates aig.now) }
-    ensures placed { OnOk result (IsPlaced (gate_graph aig.now) (gates aig.now)) }
-    ensures reached { OnOk result (All (IsReached (gate_graph aig.now)) (gates aig.now)) }
+    ensures settled { IfOk result (λ plan. IsSettled aig.now plan.allotment) }
     ensures complete { OnOk result ((gate : ℕ) → IsReached (gate_graph aig.now) gate → has (gates aig.now) gate ≡ true) }
-    ensures sound { OnOk result (IsOver (gate_graph aig.now) (gates aig.now) (map (taken aig.now) (gates aig.now))) }
-    ensures small { OnOk result (IsAig aig.now) }
-    ensures there { OnOk result (All (λ l. l < 2 * nodes aig.now) (gates aig.now)) }
     ensures few { OnOk result (length (gates aig.now) ≤ 2 * nodes aig.now) }
     ensures over { IfOk result (λ plan. plan.over.items ≡ map (taken aig.now) (gates aig.now)) }
-    ensures allotment { IfOk result (λ plan. IsAllotment (gate_graph aig.now) (gates aig.now) (map (taken aig.now) (gates aig.now)) aig.now.inputs plan.allotment) }
+    ensures cells { IfOk result (λ plan. plan.allotment.width ≡ cells_of aig.now) }
     ensures needed { IfOk result (λ plan. plan.needed ≡ needed_of aig.now) }
     ensures most { IfOk result (λ plan. plan.needed ≤ coarse_of aig.now) }
     ensures width { IfOk result (λ plan. plan.allotment.width ≤ needed_of aig.now) }
 {
+    aig.has_values();
     let graph = gate_graph(alloc, aig)?;
     graph.has_order();
     let order = order(alloc, &graph)?;

@@ -11,11 +11,11 @@ ghost use Rattle.pim_isa.specs.declared.target.Target.TheVariants as target_is;
 ghost use Rattle.pim_mig.specs.Graph.{IsMig, size};
 ghost use Rattle.pim_mig.specs.Values.{mval};
 ghost use Rattle.pim_mig.specs.declared.node.Maj.{Maj};
-ghost use Rattle.pim_rm3.specs.Refusals.{IsUnfitFor};
+ghost use Rattle.pim_rm3.specs.Refusals.{IsUnfitFor, TellsCells};
 ghost use Rattle.pim_rm3.specs.Roles.{least_role, role_cost, roles};
 ghost use Rattle.pim_rm3.specs.SmartSchedules.{smart_program};
 ghost use Rattle.pim_rm3.specs.Steps.{enough_of, mig_gates, mig_graph, smart_cost, step_of};
-ghost use Rattle.pim_rm3.specs.Temporaries.{full_graph, full_order, full_over};
+ghost use Rattle.pim_rm3.specs.Temporaries.{full_graph, full_order, full_over, smart_cells};
 
 use crate::mig_graph::{literals, mig_graph};
 use crate::ports::add_outputs;
@@ -41,7 +41,8 @@ struct Plan {
 /// node have the roles that cost least: a complement may be the second operand as it is, and a node that is read once may lend its
 /// cell.
 ///
-/// `Unfit` comes only where the schedule's cells are above the budget. They are never more than `enough_of`. Near linear in the graph.
+/// `Unfit` comes only where the schedule's cells are above the budget, and tells them. They are never more than `enough_of`. Near linear
+/// in the graph.
 pub fn smart(alloc: Global, mig: &Mig, ports: &Ports, budget: u32) -> Result<Program, SmartFault>
     requires inputs { length ports.now.inputs ≡ mig.now.inputs }
     requires outputs { length ports.now.outputs ≡ length mig.now.outputs }
@@ -52,10 +53,12 @@ pub fn smart(alloc: Global, mig: &Mig, ports: &Ports, budget: u32) -> Result<Pro
     ensures target { IfOk result (λ program. program.target ≡ target_is.Plim) }
     ensures labels { IfOk result (λ program. labels_of program.outputs ≡ ports.now.outputs) }
     ensures cells { IfOk result (λ program. program.cells ≤ budget) }
+    ensures width { IfOk result (λ program. program.cells ≡ smart_cells mig.now) }
     ensures enough { IfOk result (λ program. program.cells ≤ enough_of mig.now) }
     ensures cycles { IfOk result (λ program. length program.instrs ≡ smart_cost mig.now) }
     ensures primed { IfOk result (λ program. IsPrimed program.instrs) }
     ensures unfit { IfErr result (IsUnfitFor (enough_of mig.now) budget) }
+    ensures told { IfErr result (TellsCells (smart_cells mig.now)) }
 {
     mig.has_values();
     let plan = match planned(alloc, mig) {
@@ -93,6 +96,7 @@ fn planned(alloc: Global, mig: &Mig) -> Result<Plan, NoMemory>
     ensures full { OnOk result (IsPlaced (full_graph mig.now) (full_order mig.now)) }
     ensures sound { OnOk result (IsOver (full_graph mig.now) (full_order mig.now) (full_over mig.now)) }
     ensures allotment { IfOk result (λ plan. IsAllotment (full_graph mig.now) (full_order mig.now) (full_over mig.now) mig.now.inputs plan.allotment) }
+    ensures cells { IfOk result (λ plan. plan.allotment.width ≡ smart_cells mig.now) }
     ensures width { IfOk result (λ plan. plan.allotment.width ≤ enough_of mig.now) }
 {
     let graph = mig_graph(alloc, mig)?;
@@ -127,6 +131,7 @@ fn allotted(
     ensures full { OnOk result (IsPlaced (full_graph mig.now) (full_order mig.now)) }
     ensures sound { OnOk result (IsOver (full_graph mig.now) (full_order mig.now) (full_over mig.now)) }
     ensures allotment { IfOk result (λ a. IsAllotment (full_graph mig.now) (full_order mig.now) (full_over mig.now) mig.now.inputs a) }
+    ensures cells { IfOk result (λ a. a.width ≡ smart_cells mig.now) }
     ensures width { IfOk result (λ a. a.width ≤ enough_of mig.now) }
 {
     graph.has_order();

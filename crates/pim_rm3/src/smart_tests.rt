@@ -1,6 +1,6 @@
-use crate::tests::is_at;
+use crate::tests::is_of;
 use crate::{SmartFault, smart, smart_cost};
-use pim_aig::{Lit, MAX_OUTPUTS};
+use pim_aig::{Lit, MAX_INPUTS, MAX_OUTPUTS};
 use pim_isa::{MAX_CELLS, Operand, Ports, Program};
 use pim_mig::{MAX_NODES, Mig};
 use std::alloc::Global;
@@ -27,8 +27,28 @@ fn add_output(mig: &mut Mig, out: u32) -> Result<(), Fail> {
     Err("no such output")?
 }
 
-/// The schedule in that many cells, with as many ports as the graph has inputs and outputs.
-fn scheduled(alloc: Global, mig: &Mig, budget: u32) -> Result<Result<Program, SmartFault>, Fail> {
+/// A graph of these majority nodes and these outputs, if they are there.
+fn graph(
+    alloc: Global,
+    inputs: u32,
+    nodes: &[(u32, u32, u32)],
+    outputs: &[u32],
+) -> Result<Mig, Fail> {
+    if inputs > MAX_INPUTS {
+        Err("too many inputs")?;
+    }
+    let mut mig = Mig::new(alloc, inputs);
+    for (x, y, z) in nodes {
+        add_node(&mut mig, *x, *y, *z)?;
+    }
+    for output in outputs {
+        add_output(&mut mig, *output)?;
+    }
+    Ok(mig)
+}
+
+/// As many ports as the graph has inputs and outputs, all with one label.
+fn ports_of(alloc: Global, mig: &Mig) -> Result<Ports, Fail> {
     let mut ports = Ports::new(alloc);
     for _k in 0..mig.inputs() {
         ports.add_input(b"i")?;
@@ -36,6 +56,12 @@ fn scheduled(alloc: Global, mig: &Mig, budget: u32) -> Result<Result<Program, Sm
     for _k in 0..mig.outputs().len() {
         ports.add_output(b"o")?;
     }
+    Ok(ports)
+}
+
+/// The schedule in that many cells, if the ports and the budget are as it asks.
+fn scheduled(alloc: Global, mig: &Mig, budget: u32) -> Result<Result<Program, SmartFault>, Fail> {
+    let ports = ports_of(alloc, mig)?;
     if ports.inputs().len() == mig.inputs() as usize
         && ports.outputs().len() == mig.outputs().len()
         && budget <= MAX_CELLS
@@ -48,20 +74,17 @@ fn scheduled(alloc: Global, mig: &Mig, budget: u32) -> Result<Result<Program, Sm
 /// The exclusive or, of majorities with two constants: a complement is the second operand, and the last node takes a cell over.
 #[test]
 fn an_exclusive_or(rt: HostRuntime) -> Result<(), Fail> {
-    let mut mig = Mig::new(rt.alloc(), 2);
-    add_node(&mut mig, 2, 5, 0)?;
-    add_node(&mut mig, 3, 4, 0)?;
-    add_node(&mut mig, 6, 8, 1)?;
-    add_output(&mut mig, 10)?;
+    let mig = graph(rt.alloc(), 2, &[(2, 5, 0), (3, 4, 0), (6, 8, 1)], &[10])?;
     assert_eq!(rt; smart_cost(rt.alloc(), &mig)?, 5);
     let program = scheduled(rt.alloc(), &mig, 4)??;
-    assert_eq!(rt; program.cells(), 4);
-    assert_eq!(rt; program.instrs().len(), 5);
-    assert!(rt; is_at(&program, 0, Operand::Zero, Operand::One, 2));
-    assert!(rt; is_at(&program, 1, Operand::Cell(0), Operand::Cell(1), 2));
-    assert!(rt; is_at(&program, 2, Operand::Zero, Operand::One, 3));
-    assert!(rt; is_at(&program, 3, Operand::Cell(1), Operand::Cell(0), 3));
-    assert!(rt; is_at(&program, 4, Operand::Cell(2), Operand::Zero, 3));
+    let instrs = [
+        (Operand::Zero, Operand::One, 2),
+        (Operand::Cell(0), Operand::Cell(1), 2),
+        (Operand::Zero, Operand::One, 3),
+        (Operand::Cell(1), Operand::Cell(0), 3),
+        (Operand::Cell(2), Operand::Zero, 3),
+    ];
+    assert!(rt; is_of(&program, 4, &instrs));
     let fault = scheduled(rt.alloc(), &mig, 3)?.err();
     assert_eq!(rt;
         fault,
@@ -76,39 +99,39 @@ fn an_exclusive_or(rt: HostRuntime) -> Result<(), Fail> {
 /// Three plain operands: a temporary holds the complement of the second one.
 #[test]
 fn a_temporary_for_the_second(rt: HostRuntime) -> Result<(), Fail> {
-    let mut mig = Mig::new(rt.alloc(), 3);
-    add_node(&mut mig, 6, 2, 4)?;
-    add_output(&mut mig, 8)?;
+    let mig = graph(rt.alloc(), 3, &[(6, 2, 4)], &[8])?;
     let program = scheduled(rt.alloc(), &mig, 5)??;
-    assert_eq!(rt; program.cells(), 5);
-    assert_eq!(rt; program.instrs().len(), 5);
-    assert!(rt; is_at(&program, 1, Operand::Zero, Operand::Cell(0), 3));
-    assert!(rt; is_at(&program, 3, Operand::Cell(1), Operand::Zero, 4));
-    assert!(rt; is_at(&program, 4, Operand::Cell(2), Operand::Cell(3), 4));
+    let instrs = [
+        (Operand::One, Operand::Zero, 3),
+        (Operand::Zero, Operand::Cell(0), 3),
+        (Operand::Zero, Operand::One, 4),
+        (Operand::Cell(1), Operand::Zero, 4),
+        (Operand::Cell(2), Operand::Cell(3), 4),
+    ];
+    assert!(rt; is_of(&program, 5, &instrs));
     Ok(())
 }
 
 /// Three complemented operands: a temporary holds the first one.
 #[test]
 fn a_temporary_for_the_first(rt: HostRuntime) -> Result<(), Fail> {
-    let mut mig = Mig::new(rt.alloc(), 3);
-    add_node(&mut mig, 3, 5, 7)?;
-    add_output(&mut mig, 8)?;
+    let mig = graph(rt.alloc(), 3, &[(3, 5, 7)], &[8])?;
     let program = scheduled(rt.alloc(), &mig, 5)??;
-    assert_eq!(rt; program.instrs().len(), 5);
-    assert!(rt; is_at(&program, 1, Operand::Zero, Operand::Cell(0), 3));
-    assert!(rt; is_at(&program, 3, Operand::Zero, Operand::Cell(2), 4));
-    assert!(rt; is_at(&program, 4, Operand::Cell(3), Operand::Cell(1), 4));
+    let instrs = [
+        (Operand::One, Operand::Zero, 3),
+        (Operand::Zero, Operand::Cell(0), 3),
+        (Operand::One, Operand::Zero, 4),
+        (Operand::Zero, Operand::Cell(2), 4),
+        (Operand::Cell(3), Operand::Cell(1), 4),
+    ];
+    assert!(rt; is_of(&program, 5, &instrs));
     Ok(())
 }
 
 /// A node lends its cell to its one reader, but not where an output is its complement.
 #[test]
 fn a_node_that_lends_its_cell(rt: HostRuntime) -> Result<(), Fail> {
-    let mut mig = Mig::new(rt.alloc(), 3);
-    add_node(&mut mig, 2, 4, 6)?;
-    add_node(&mut mig, 8, 2, 5)?;
-    add_output(&mut mig, 10)?;
+    let mut mig = graph(rt.alloc(), 3, &[(2, 4, 6), (8, 2, 5)], &[10])?;
     assert_eq!(rt; smart_cost(rt.alloc(), &mig)?, 6);
     add_output(&mut mig, 9)?;
     assert_eq!(rt; smart_cost(rt.alloc(), &mig)?, 10);
@@ -118,14 +141,14 @@ fn a_node_that_lends_its_cell(rt: HostRuntime) -> Result<(), Fail> {
 /// Outputs that are constants, and one that is the complement of an input.
 #[test]
 fn outputs_without_nodes(rt: HostRuntime) -> Result<(), Fail> {
-    let mut mig = Mig::new(rt.alloc(), 1);
-    add_output(&mut mig, 0)?;
-    add_output(&mut mig, 1)?;
-    add_output(&mut mig, 3)?;
+    let mig = graph(rt.alloc(), 1, &[], &[0, 1, 3])?;
     let program = scheduled(rt.alloc(), &mig, 4)??;
-    assert_eq!(rt; program.instrs().len(), 4);
-    assert!(rt; is_at(&program, 0, Operand::Zero, Operand::One, 1));
-    assert!(rt; is_at(&program, 1, Operand::One, Operand::Zero, 2));
-    assert!(rt; is_at(&program, 3, Operand::Zero, Operand::Cell(0), 3));
+    let instrs = [
+        (Operand::Zero, Operand::One, 1),
+        (Operand::One, Operand::Zero, 2),
+        (Operand::One, Operand::Zero, 3),
+        (Operand::Zero, Operand::Cell(0), 3),
+    ];
+    assert!(rt; is_of(&program, 4, &instrs));
     Ok(())
 }

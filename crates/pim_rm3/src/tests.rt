@@ -1,5 +1,5 @@
 use crate::{Refusal, base, needed, rm3_cost};
-use pim_aig::{Aig, Lit, MAX_ANDS, MAX_OUTPUTS};
+use pim_aig::{Aig, Lit, MAX_ANDS, MAX_INPUTS, MAX_OUTPUTS};
 use pim_isa::{Instr, MAX_CELLS, Operand, Ports, Program};
 use std::alloc::Global;
 use std::test::Fail;
@@ -23,6 +23,19 @@ fn add_output(aig: &mut Aig, out: u32) -> Result<(), Fail> {
         return Ok(());
     }
     Err("no such output")?
+}
+
+/// A graph of these AND nodes and this output, if they are there.
+fn graph(alloc: Global, inputs: u32, ands: &[(u32, u32)], output: u32) -> Result<Aig, Fail> {
+    if inputs > MAX_INPUTS {
+        Err("too many inputs")?;
+    }
+    let mut aig = Aig::new(alloc, inputs);
+    for (x, y) in ands {
+        add_and(&mut aig, *x, *y)?;
+    }
+    add_output(&mut aig, output)?;
+    Ok(aig)
 }
 
 /// As many ports as the graph has inputs and outputs, all with one label.
@@ -49,66 +62,68 @@ fn scheduled(alloc: Global, aig: &Aig, budget: u32) -> Result<Result<Program, Re
     Err("no such ports")?
 }
 
-/// Whether the instruction at a place is this one.
-pub(crate) fn is_at(program: &Program, place: usize, p: Operand, q: Operand, z: u32) -> bool {
-    match program.instrs().get(place) {
-        Some(
-            Instr::Rm3 {
-                p: has_p,
-                q: has_q,
-                z: has_z,
-            },
-        ) => *has_p == p && *has_q == q && *has_z == z,
+/// Whether an instruction is this one.
+fn is_rm3(instr: &Instr, p: Operand, q: Operand, z: u32) -> bool {
+    match instr {
+        Instr::Rm3 {
+            p: has_p,
+            q: has_q,
+            z: has_z,
+        } => *has_p == p && *has_q == q && *has_z == z,
         _ => false,
     }
+}
+
+/// Whether a program has so many cells and exactly these instructions.
+pub(crate) fn is_of(program: &Program, cells: u32, instrs: &[(Operand, Operand, u32)]) -> bool {
+    if program.cells() != cells || program.instrs().len() != instrs.len() {
+        return false;
+    }
+    for (instr, (p, q, z)) in program.instrs().iter().zip(instrs) {
+        if !is_rm3(instr, *p, *q, *z) {
+            return false;
+        }
+    }
+    true
 }
 
 /// The AND of two inputs: its cell is cleared, takes one input and is narrowed by the other.
 #[test]
 fn one_and(rt: HostRuntime) -> Result<(), Fail> {
-    let mut aig = Aig::new(rt.alloc(), 2);
-    add_and(&mut aig, 2, 4)?;
-    add_output(&mut aig, 6)?;
+    let aig = graph(rt.alloc(), 2, &[(2, 4)], 6)?;
     assert_eq!(rt; rm3_cost(rt.alloc(), &aig)?, 3);
     let program = scheduled(rt.alloc(), &aig, 3)??;
-    assert_eq!(rt; program.cells(), 3);
-    assert_eq!(rt; program.instrs().len(), 3);
-    assert!(rt; is_at(&program, 0, Operand::Zero, Operand::One, 2));
-    assert!(rt; is_at(&program, 1, Operand::Cell(0), Operand::Zero, 2));
-    assert!(rt; is_at(&program, 2, Operand::Cell(1), Operand::One, 2));
+    let instrs = [
+        (Operand::Zero, Operand::One, 2),
+        (Operand::Cell(0), Operand::Zero, 2),
+        (Operand::Cell(1), Operand::One, 2),
+    ];
+    assert!(rt; is_of(&program, 3, &instrs));
     Ok(())
 }
 
-/// A chain of ANDs: each takes over the cell of the one before it.
+/// A chain of ANDs: each takes over the cell of the one before it, so that fewer cells do than the note names.
 #[test]
 fn a_chain_of_ands(rt: HostRuntime) -> Result<(), Fail> {
-    let mut aig = Aig::new(rt.alloc(), 6);
-    add_and(&mut aig, 2, 4)?;
-    add_and(&mut aig, 14, 6)?;
-    add_and(&mut aig, 16, 8)?;
-    add_and(&mut aig, 18, 10)?;
-    add_and(&mut aig, 20, 12)?;
-    add_output(&mut aig, 22)?;
-    let program = scheduled(rt.alloc(), &aig, 7)??;
-    assert_eq!(rt; program.cells(), 7);
-    assert_eq!(rt; program.instrs().len(), 7);
-    assert!(rt; is_at(&program, 0, Operand::Zero, Operand::One, 6));
-    assert!(rt; is_at(&program, 1, Operand::Cell(0), Operand::Zero, 6));
-    assert!(rt; is_at(&program, 2, Operand::Cell(1), Operand::One, 6));
-    assert!(rt; is_at(&program, 6, Operand::Cell(5), Operand::One, 6));
-    let refusal = scheduled(rt.alloc(), &aig, 6)?.err();
-    assert_eq!(rt; refusal, Some(Refusal::TooFewCells { needed: 8 }));
+    let aig = graph(rt.alloc(), 4, &[(2, 4), (10, 6), (12, 8)], 14)?;
+    let program = scheduled(rt.alloc(), &aig, 5)??;
+    let instrs = [
+        (Operand::Zero, Operand::One, 4),
+        (Operand::Cell(0), Operand::Zero, 4),
+        (Operand::Cell(1), Operand::One, 4),
+        (Operand::Cell(2), Operand::One, 4),
+        (Operand::Cell(3), Operand::One, 4),
+    ];
+    assert!(rt; is_of(&program, 5, &instrs));
+    let refusal = scheduled(rt.alloc(), &aig, 4)?.err();
+    assert_eq!(rt; refusal, Some(Refusal::TooFewCells { needed: 6 }));
     Ok(())
 }
 
 /// One input or the other, but not both: three ANDs that take no cell over, and the complement of the last one.
 #[test]
 fn a_complemented_output(rt: HostRuntime) -> Result<(), Fail> {
-    let mut aig = Aig::new(rt.alloc(), 2);
-    add_and(&mut aig, 2, 5)?;
-    add_and(&mut aig, 3, 4)?;
-    add_and(&mut aig, 7, 9)?;
-    add_output(&mut aig, 11)?;
+    let aig = graph(rt.alloc(), 2, &[(2, 5), (3, 4), (7, 9)], 11)?;
     assert_eq!(rt; rm3_cost(rt.alloc(), &aig)?, 11);
     assert_eq!(rt; needed(rt.alloc(), &aig)?, 5);
     let program = scheduled(rt.alloc(), &aig, 5)??;
@@ -122,14 +137,15 @@ fn a_complemented_output(rt: HostRuntime) -> Result<(), Fail> {
 /// A node with itself stays, and with its complement is false.
 #[test]
 fn a_node_on_its_own_cell(rt: HostRuntime) -> Result<(), Fail> {
-    let mut aig = Aig::new(rt.alloc(), 2);
-    add_and(&mut aig, 2, 4)?;
-    add_and(&mut aig, 6, 6)?;
-    add_and(&mut aig, 8, 9)?;
-    add_output(&mut aig, 10)?;
+    let aig = graph(rt.alloc(), 2, &[(2, 4), (6, 6), (8, 9)], 10)?;
     let program = scheduled(rt.alloc(), &aig, 3)??;
-    assert_eq!(rt; program.instrs().len(), 5);
-    assert!(rt; is_at(&program, 3, Operand::One, Operand::One, 2));
-    assert!(rt; is_at(&program, 4, Operand::Zero, Operand::One, 2));
+    let instrs = [
+        (Operand::Zero, Operand::One, 2),
+        (Operand::Cell(0), Operand::Zero, 2),
+        (Operand::Cell(1), Operand::One, 2),
+        (Operand::One, Operand::One, 2),
+        (Operand::Zero, Operand::One, 2),
+    ];
+    assert!(rt; is_of(&program, 3, &instrs));
     Ok(())
 }

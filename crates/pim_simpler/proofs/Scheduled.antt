@@ -25,7 +25,6 @@ use Rattle.pim_nor.specs.GateGraphs.{graph_of, gates_read}
 use Rattle.pim_nor.specs.Laws.{HasGateValues}
 use Rattle.pim_nor.specs.Network.{NorView, IsNetwork, nor_count, IsOfFirst, AreOfFirst}
 use Rattle.pim_nor.specs.Values.{out_values}
-use Rattle.pim_nor.specs.declared.network.Gate.{Gate}
 use Rattle.pim_nor.specs.declared.network.Pin.{Pin}
 use Rattle.pim_simpler.specs.Batching.{Batched, is_work}
 use Rattle.pim_simpler.specs.Following.{Follows, nors_of}

@@ -65,12 +65,7 @@ pub fn schedule(alloc: Global, net: &NorNet, ports: &Ports, budget: u32) -> Resu
 }
 
 /// The draft of a schedule, if the budget has the cells that are needed.
-fn drafted(
-    alloc: Global,
-    net: &NorNet,
-    ports: &Ports,
-    budget: u32,
-) -> Result<ProgramDraft, Refusal>
+fn drafted(alloc: Global, net: &NorNet, ports: &Ports, budget: u32) -> Result<ProgramDraft, Refusal>
     requires inputs { length ports.now.inputs ≡ net.now.inputs }
     requires outputs { length ports.now.outputs ≡ length net.now.outs }
     requires within { budget ≤ MAX_CELLS }

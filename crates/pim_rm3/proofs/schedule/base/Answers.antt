@@ -8,7 +8,6 @@ use Rattle.pim_isa.specs.Sound.{IsSound}
 use Rattle.pim_rm3.specs.Schedules.{program_of}
 use Rattle.pim_rm3.proofs.Counts.{schedule_length, cost_within, labels_kept, ports_count}
 use Rattle.pim_rm3.proofs.Finished.{inputs_count, realizes, sound}
-use Rattle.pim_rm3.proofs.Walks.{IsSettled}
 use Rattle.pim_rm3.proofs.schedule.base.Goals as goal
 
 pub new-requires-clause-few_ports : goal.new-requires-clause-few_ports
@@ -18,7 +17,7 @@ new-requires-clause-few_ports c =
     let is = c.in-Ok-drafted.ensures in
     let ins = ap (λ (p : ProgramView). length p.inputs) is ∙ inputs_count c.args.ports.now.inputs 0 in
     let outs = ap (λ (p : ProgramView). length p.outputs) is ∙ ports_count g.inputs a.cells g.outputs c.args.ports.now.outputs c.requires.outputs in
-    omega (arith, c.requires.inputs, c.in-Ok.ensures.small.inputs_fit, c.in-Ok.ensures.small.outputs_fit)
+    omega (arith, c.requires.inputs, c.in-Ok.ensures.settled.small.inputs_fit, c.in-Ok.ensures.settled.small.outputs_fit)
 
 pub new-requires-clause-few_instrs : goal.new-requires-clause-few_instrs
 new-requires-clause-few_instrs c =
@@ -26,7 +25,7 @@ new-requires-clause-few_instrs c =
     let a = c.in-Ok.plan.allotment in
     let is = ap (λ (p : ProgramView). length p.instrs) c.in-Ok-drafted.ensures ∙ schedule_length g a.cells in
     let few = cost_within g in
-    omega (arith, c.in-Ok.ensures.few, c.in-Ok.ensures.small.inputs_fit, c.in-Ok.ensures.small.ands_fit)
+    omega (arith, c.in-Ok.ensures.few, c.in-Ok.ensures.settled.small.inputs_fit, c.in-Ok.ensures.settled.small.ands_fit)
 
 pub returns-in-Ok-new-clause-realizes : goal.returns-in-Ok-new-clause-realizes
 returns-in-Ok-new-clause-realizes c =
@@ -34,17 +33,8 @@ returns-in-Ok-new-clause-realizes c =
     let ports = c.args.ports.now in
     let a = c.in-Ok.plan.allotment in
     let is : c.in-Ok-new.program ≡ program_of g ports a = c.in-Ok-new.ensures.program ∙ c.in-Ok-drafted.ensures in
-    let s : IsSettled g a = record {
-      small = c.in-Ok.ensures.small;
-      values = c.has_values.ensures;
-      placed = c.in-Ok.ensures.placed;
-      there = c.in-Ok.ensures.there;
-      reached = c.in-Ok.ensures.reached;
-      over = c.in-Ok.ensures.sound;
-      allotted = c.in-Ok.ensures.allotment;
-    } in
     let P : ProgramView → Type 0 = λ p. Realizes p ports.inputs (λ bits. map (aval g bits) g.outputs) in
-    subst P (sym is) (realizes g ports a s c.laws.ensures.exec c.in-Ok.ensures.complete c.requires.inputs c.requires.outputs)
+    subst P (sym is) (realizes g ports a c.in-Ok.ensures.settled c.laws.ensures.exec c.in-Ok.ensures.complete c.requires.inputs c.requires.outputs)
 
 pub returns-in-Ok-new-clause-labels : goal.returns-in-Ok-new-clause-labels
 returns-in-Ok-new-clause-labels c =
@@ -65,13 +55,4 @@ unreachable-requires c =
     let g = c.args.aig.now in
     let ports = c.args.ports.now in
     let a = c.in-Ok.plan.allotment in
-    let s : IsSettled g a = record {
-      small = c.in-Ok.ensures.small;
-      values = c.has_values.ensures;
-      placed = c.in-Ok.ensures.placed;
-      there = c.in-Ok.ensures.there;
-      reached = c.in-Ok.ensures.reached;
-      over = c.in-Ok.ensures.sound;
-      allotted = c.in-Ok.ensures.allotment;
-    } in
-    false≢true (c.in-Err-new.ensures.accepts (subst IsSound (sym c.in-Ok-drafted.ensures) (sound g ports a s c.in-Ok.ensures.complete c.requires.inputs)))
+    false≢true (c.in-Err-new.ensures.accepts (subst IsSound (sym c.in-Ok-drafted.ensures) (sound g ports a c.in-Ok.ensures.settled c.in-Ok.ensures.complete c.requires.inputs)))

@@ -1,5 +1,5 @@
 use Rattle.std.proofs.Common.{◌≡◌, ℕ, ◌+◌, ◌*◌, ◌<◌, ◌≤◌, All, List, Option, drop, get_or, length, true, sym, subst, ◌∙◌, ap, arith}
-use Rattle.pim_graph.specs.Allotments.{IsOver}
+use Rattle.pim_graph.specs.Allotments.{IsOver, cells_along}
 use Rattle.pim_graph.specs.Graphs.{GraphView}
 use Rattle.pim_graph.specs.Orders.{order}
 use Rattle.pim_graph.specs.Peaks.{IsPlaced, needed, peak}
@@ -74,3 +74,12 @@ returns-clause-width c =
     ap (λ (v : GraphView). peak v c.deref.result.now) c.in_ok-full.ensures ∙ ap (peak (full_graph g)) (c.deref.ensures.value ∙ c.in_ok-gates.ensures) in
     let more = full_peak g (ordered g c.requires.placed c.requires.needed) in
     omega (arith, c.in_ok-allotment.ensures.width, c.inputs.ensures.count)
+
+pub returns-clause-cells : goal.returns-clause-cells
+returns-clause-cells c =
+    let g = c.args.mig.now in
+    let same : cells_along c.in_ok-full.full c.deref.result.now c.deref-2.result.now ≡ cells_along (full_graph g) (full_order g) (full_over g) =
+    ap (λ (v : GraphView). cells_along v c.deref.result.now c.deref-2.result.now) c.in_ok-full.ensures
+    ∙ ap (λ (xs : List ℕ). cells_along (full_graph g) xs c.deref-2.result.now) (c.deref.ensures.value ∙ c.in_ok-gates.ensures)
+    ∙ ap (cells_along (full_graph g) (full_order g)) (c.deref-2.ensures.value ∙ c.in_ok-over.ensures) in
+    omega (arith, c.in_ok-allotment.ensures.cells, c.inputs.ensures.count)

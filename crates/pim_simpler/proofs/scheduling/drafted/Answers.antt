@@ -1,6 +1,4 @@
-use Rattle.std.proofs.Common.{◌≡◌, ◌∙◌, ℕ, List, sym, subst}
-use Rattle.pim_isa.specs.Programs.{ProgramView}
-use Rattle.pim_simpler.specs.Needs.{order_of}
+use Rattle.std.proofs.Common.{◌∙◌, ℕ, List, sym, subst}
 use Rattle.pim_simpler.specs.inner.Runs.{Plan, Drafted, cells_within}
 use Rattle.pim_simpler.proofs.scheduling.drafted.Goals as goal
 

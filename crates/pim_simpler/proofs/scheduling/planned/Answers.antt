@@ -1,4 +1,4 @@
-use Rattle.std.proofs.Common.{◌≡◌, ◌∙◌, ℕ, ◌+◌, ◌^◌, ◌<◌, ◌≤◌, List, length, sym, subst, arith, vec_len}
+use Rattle.std.proofs.Common.{ℕ, ◌+◌, ◌^◌, ◌<◌, ◌≤◌, List, length, sym, subst, arith, vec_len}
 use Rattle.pim_graph.specs.Graphs.{GraphView}
 use Rattle.pim_graph.specs.Orders.{order}
 use Rattle.pim_graph.specs.Peaks.{IsPlaced}

@@ -1,6 +1,5 @@
-use Rattle.std.proofs.Common.{◌≡◌, ◌∙◌, ℕ, ◌+◌, ◌≤◌, length, sym, subst, arith}
+use Rattle.std.proofs.Common.{◌≡◌, ◌∙◌, ℕ, sym, subst, arith}
 use Rattle.std.proofs.lemmas.Bool.{false≢true}
-use Rattle.pim_isa.specs.PortLists.{labels_of}
 use Rattle.pim_isa.specs.Programs.{PortsView, ProgramView}
 use Rattle.pim_nor.specs.Network.{NorView, nor_count}
 use Rattle.pim_simpler.specs.Needs.{order_of}
