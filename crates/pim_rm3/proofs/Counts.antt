@@ -4,7 +4,6 @@ use Rattle.std.proofs.lemmas.List.{length-append}
 use Rattle.std.proofs.lemmas.List.Concat.{length-flat_map}
 use Rattle.std.proofs.lemmas.List.Sums.{sum_by-cons}
 use Rattle.pim_aig.specs.Graph.{AigView}
-use Rattle.pim_aig.specs.Values.{aval}
 use Rattle.pim_aig.specs.declared.literal.Lit.{Lit}
 use Rattle.pim_isa.specs.PortLists.{labels_of}
 use Rattle.pim_isa.specs.Steps.{bit}

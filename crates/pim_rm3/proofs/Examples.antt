@@ -1,10 +1,9 @@
 -- Worked examples of the definitions, by computation: the exclusive or in five cells, and cells that are taken over.
-use Rattle.std.proofs.Common.{◌≡◌, ℕ, Bool, true, false, List, [], ◌∷◌, map, Option, Some, None, refl}
+use Rattle.std.proofs.Common.{◌≡◌, ℕ, true, false, List, [], ◌∷◌, map, Some, None, refl}
 use Rattle.pim_aig.specs.Graph.{AigView}
-use Rattle.pim_aig.specs.Values.{aval}
 use Rattle.pim_aig.specs.declared.graph.And.{And}
 use Rattle.pim_aig.specs.declared.literal.Lit.{Lit}
-use Rattle.pim_isa.specs.Programs.{PortsView, ProgramView}
+use Rattle.pim_isa.specs.Programs.{PortsView}
 use Rattle.pim_isa.specs.Steps.{exec}
 use Rattle.pim_isa.specs.declared.port.Port.{Port}
 use Rattle.pim_isa.specs.declared.target.Target.TheVariants.{Plim}
@@ -12,7 +11,7 @@ use Rattle.pim_isa.specs.declared.instr.Operand.TheVariants.{Zero, One, Cell}
 use Rattle.pim_isa.specs.declared.instr.Instr.{Instr}
 use Rattle.pim_isa.specs.declared.instr.Instr.TheVariants.{Rm3}
 use Rattle.pim_rm3.specs.Costs.{coarse_of, made_outputs, needed_of, rm3_cost}
-use Rattle.pim_rm3.specs.Gates.{gate_graph, gate_of, gates, taken}
+use Rattle.pim_rm3.specs.Gates.{gates, taken}
 use Rattle.pim_rm3.specs.Schedules.{program_of, schedule}
 use Rattle.pim_rm3.specs.declared.gate.Gate.TheVariants as gate
 

@@ -1,43 +1,36 @@
 -- Each gate and each temporary is computed: its instructions leave its value in its cell.
-use Rattle.std.proofs.Common.{◌≡◌, ◌≢◌, ◌⊎◌, ℕ, zero, suc, ◌+◌, ◌-◌, ◌*◌, ◌/◌, ◌%◌, ◌<◌, ◌≤◌, Bool, true, false, cond, eqb, nat_le, nat_lt, ◌&&◌, ◌||◌, not, List, [], ◌∷◌, ◌++◌, length, get_or, take, drop, fold, All, Option, Some, None, refl, sym, ◌∙◌, ap, subst, arith, inl, inr}
+use Rattle.std.proofs.Common.{◌≡◌, ◌≢◌, ◌⊎◌, ℕ, zero, suc, ◌+◌, ◌-◌, ◌*◌, ◌/◌, ◌%◌, ◌<◌, ◌≤◌, Bool, true, false, cond, eqb, nat_lt, ◌&&◌, not, List, [], ◌∷◌, length, get_or, All, Some, None, refl, sym, ◌∙◌, ap, arith, inl, inr}
 use Rattle.std.proofs.lemmas.Bool.{false≢true}
 use Rattle.std.proofs.lemmas.Bool.Decides.{nat_tests, eqb_tells, leb_tells}
 use Rattle.pim_aig.specs.declared.literal.Lit.{Lit}
-use Rattle.pim_graph.specs.Allotments.{AllotmentView, IsAllotment, taken_at}
+use Rattle.pim_graph.specs.Allotments.{AllotmentView, taken_at}
 use Rattle.pim_graph.specs.Graphs.{has, kids_of}
 use Rattle.pim_graph.specs.Orders.{IsReached}
 use Rattle.pim_graph.specs.Orders.IsReached.{as_root, as_child}
 use Rattle.pim_isa.specs.Laws.{ExecLaws}
 use Rattle.pim_isa.specs.Steps.{bit, exec, majority, value}
-use Rattle.pim_isa.specs.declared.instr.Operand.{Operand}
 use Rattle.pim_isa.specs.declared.instr.Operand.TheVariants as operand
 use Rattle.pim_isa.specs.declared.instr.Instr.{Instr}
 use Rattle.pim_isa.specs.declared.instr.Instr.TheVariants.{Rm3}
-use Rattle.pim_mig.specs.Graph.{IsApart, IsMig, MigView, size}
+use Rattle.pim_mig.specs.Graph.{IsMig, MigView, size}
 use Rattle.pim_mig.specs.Laws.{MajorityLaws}
 use Rattle.pim_mig.specs.Values.{majority as mig_majority, mval, node_values}
 use Rattle.pim_mig.specs.declared.node.Maj.{Maj}
-use Rattle.pim_rm3.specs.Gates.{is_input, with_root}
 use Rattle.pim_rm3.specs.Roles.{is_plain, temporary}
 use Rattle.pim_rm3.specs.Schedules.{cell_of, is_inverted, load, operand_of, set_to}
-use Rattle.pim_rm3.specs.SmartSchedules.{first_operand, inverse, second_operand, step_instrs, temporary_instrs, third_instrs}
+use Rattle.pim_rm3.specs.SmartSchedules.{first_operand, inverse, second_operand, step_instrs, third_instrs}
 use Rattle.pim_rm3.specs.Steps.{can_be_taken, maj_at, mig_gates, mig_graph, step_of}
 use Rattle.pim_rm3.specs.Temporaries.{full_graph, full_order, full_over, gate_number, step_takes, temporary_of}
-use Rattle.pim_rm3.specs.declared.role.Role.{Role}
-use Rattle.pim_rm3.specs.declared.step.Step.{Step}
 use Rattle.pim_rm3.specs.declared.step.Step.TheVariants as step
 use Rattle.pim_rm3.proofs.Lists.{has_whole, has_of_take}
-use Rattle.pim_rm3.proofs.FullKids.{IsWanted, ReadsNode, node_vote, odd_or_even, reads_gate, reads_own, vote_node, wanted, few_none, odd_is}
-use Rattle.pim_rm3.proofs.FullKids.IsWanted.{for_first, for_second}
-use Rattle.pim_rm3.proofs.FullOrders.{AtGate, AtTemporary, after_is, flat, here_is, place}
-use Rattle.pim_rm3.proofs.FullSound.{IsOrdered, IsTaker, below, over_is, takeable, taker}
-use Rattle.pim_rm3.proofs.FullValues.{IsRead, all_off, third_off, cells, constant_value, instrs_gate, instrs_of, instrs_temporary, operand_apart, operand_held, placing, plain_value, temporary_value, value_gate, value_of, value_temporary, vote_value}
+use Rattle.pim_rm3.proofs.FullKids.{ReadsNode, node_vote, odd_or_even, reads_gate, reads_own, vote_node, few_none, odd_is}
+use Rattle.pim_rm3.proofs.FullSound.{IsOrdered, over_is, takeable}
+use Rattle.pim_rm3.proofs.FullValues.{IsRead, third_off, cells, constant_value, instrs_gate, instrs_of, operand_apart, operand_held, placing, plain_value, temporary_value, value_gate, value_of, value_temporary, vote_value}
 use Rattle.pim_rm3.proofs.RoleLaws.{least_in, one_temporary}
-use Rattle.pim_rm3.proofs.Rows.{at_target, bool_cases, lit_bit, lit_inverted, lit_same, load_gives, load_off, off_target, operand_value, set_gives, set_off}
-use Rattle.pim_rm3.proofs.StepLaws.{IsOf, ReadsOne, StepKind, role_at, step_kind}
+use Rattle.pim_rm3.proofs.Rows.{at_target, bool_cases, lit_bit, lit_inverted, lit_same, load_gives, operand_value, set_gives}
+use Rattle.pim_rm3.proofs.StepLaws.{IsOf, ReadsOne, role_at}
 use Rattle.pim_rm3.proofs.StepLaws.ReadsOne.{by_first, by_second, by_third}
-use Rattle.pim_rm3.proofs.StepLaws.StepKind.{constant, inverse as inverted, input, vote}
-use Rattle.pim_rm3.proofs.Stepping.{Computes, IsSound, Placing, Reads, cell_at, gate_at, read_before, read_needed}
+use Rattle.pim_rm3.proofs.Stepping.{IsSound, Reads, read_before, read_needed}
 use Rattle.pim_rm3.proofs.Walks.{input_is, root_gate}
 
 -- what is known of a graph, its order and its cells

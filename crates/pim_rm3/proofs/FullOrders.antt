@@ -1,7 +1,7 @@
 -- The order of the gates with their temporaries: its places, and which gates are needed where.
-use Rattle.std.proofs.Common.{◌≡◌, ◌≢◌, ◌⊎◌, ℕ, zero, suc, ◌+◌, ◌-◌, ◌*◌, ◌/◌, ◌%◌, ◌<◌, ◌≤◌, Bool, true, false, cond, eqb, ◌||◌, List, [], ◌∷◌, ◌++◌, length, get_or, take, drop, flat_map, fold, All, Option, Some, None, refl, sym, ◌∙◌, ap, subst, arith, inl, inr}
+use Rattle.std.proofs.Common.{◌≡◌, ◌≢◌, ◌⊎◌, ℕ, zero, suc, ◌+◌, ◌*◌, ◌<◌, Bool, true, false, cond, eqb, ◌||◌, List, [], ◌∷◌, ◌++◌, length, get_or, take, drop, flat_map, fold, Option, Some, None, refl, sym, ◌∙◌, ap, arith, inl, inr}
 use Rattle.std.proofs.lemmas.Bool.{false≢true}
-use Rattle.std.proofs.lemmas.Bool.Decides.{nat_tests, eqb_tells}
+use Rattle.std.proofs.lemmas.Bool.Decides.{eqb_tells}
 use Rattle.std.proofs.lemmas.List.{drop_more}
 use Rattle.pim_aig.specs.declared.literal.Lit.{Lit}
 use Rattle.pim_graph.specs.Allotments.{taken_at}
@@ -11,7 +11,7 @@ use Rattle.pim_mig.specs.Graph.{MigView, size}
 use Rattle.pim_rm3.specs.Steps.{mig_graph, step_of}
 use Rattle.pim_rm3.specs.Temporaries.{full_graph, gate_number, own_temporary, step_takes, takes_of, temporary_of, temporary_takes, with_gate, with_temporary}
 use Rattle.pim_rm3.proofs.Lists.{or_true, split, has_here, has_one, one_has, has_front, has_back, has_either}
-use Rattle.pim_rm3.proofs.FullKids.{FullKid, full_kid, TemporaryKid, temporary_kid, ReadsNode, reads_gate}
+use Rattle.pim_rm3.proofs.FullKids.{FullKid, full_kid, temporary_kid, reads_gate}
 use Rattle.pim_rm3.proofs.FullKids.FullKid.{node_kid, own_kid}
 use Rattle.pim_rm3.proofs.Rows.{bool_cases}
 

@@ -1,14 +1,14 @@
 -- The order with temporaries holds one value more at once, at most, than the order without.
-use Rattle.std.proofs.Common.{◌≡◌, ◌⊎◌, ℕ, zero, suc, ◌+◌, ◌*◌, ◌<◌, ◌≤◌, max, Bool, true, false, cond, eqb, ◌||◌, List, [], ◌∷◌, ◌++◌, length, get_or, take, flat_map, count_by, append_assoc, Option, Some, None, refl, sym, ◌∙◌, ap, subst, arith, inl, inr}
+use Rattle.std.proofs.Common.{◌≡◌, ℕ, suc, ◌+◌, ◌*◌, ◌<◌, ◌≤◌, max, Bool, true, false, cond, eqb, ◌||◌, List, [], ◌∷◌, ◌++◌, length, get_or, take, count_by, append_assoc, Option, Some, None, refl, sym, ◌∙◌, ap, arith, inl, inr}
 use Rattle.std.proofs.lemmas.Bool.{false≢true}
-use Rattle.std.proofs.lemmas.Bool.Decides.{nat_tests, eqb_tells}
+use Rattle.std.proofs.lemmas.Bool.Decides.{eqb_tells}
 use Rattle.std.proofs.lemmas.List.{flat_map_more}
 use Rattle.std.proofs.lemmas.List.Sums.{sum_by-append, sum_by-cons}
 use Rattle.pim_aig.specs.declared.literal.Lit.{Lit}
 use Rattle.pim_graph.specs.Graphs.{GraphView, has, kids_of}
 use Rattle.pim_graph.specs.Peaks.{needed, peak, peak_from, read_by}
 use Rattle.pim_mig.specs.Graph.{MigView, size}
-use Rattle.pim_rm3.specs.Steps.{enough_of, mig_gates, mig_graph, step_of}
+use Rattle.pim_rm3.specs.Steps.{mig_gates, mig_graph, step_of}
 use Rattle.pim_rm3.specs.Temporaries.{full_graph, full_order, gate_number, own_temporary, temporary_of, with_temporary}
 use Rattle.pim_rm3.proofs.Lists.{or_true, or_more, split, has_here, has_front, has_back, has_either}
 use Rattle.pim_rm3.proofs.FullOrders.{flat, needed_alone, temporary_needed}

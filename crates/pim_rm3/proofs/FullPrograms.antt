@@ -1,7 +1,7 @@
 -- The finished program of a majority graph: it realizes the graph, is sound, and has as many instructions as its gates cost.
-use Rattle.std.proofs.Common.{◌≡◌, ◌≢◌, ◌⊎◌, ℕ, zero, suc, ◌+◌, ◌-◌, ◌*◌, ◌/◌, ◌%◌, ◌<◌, ◌≤◌, Bool, true, false, cond, eqb, nat_lt, ◌&&◌, not, List, [], ◌∷◌, ◌++◌, length, get_or, take, drop, map, flat_map, sum_by, All, AllPairs, Option, Some, None, refl, sym, ◌∙◌, ap, subst, arith, inl, inr, append_assoc}
+use Rattle.std.proofs.Common.{◌≡◌, ◌≢◌, ◌⊎◌, ℕ, ◌+◌, ◌-◌, ◌*◌, ◌/◌, ◌%◌, ◌<◌, ◌≤◌, Bool, true, false, cond, eqb, List, [], ◌∷◌, ◌++◌, length, get_or, take, drop, map, flat_map, sum_by, All, AllPairs, Option, Some, None, refl, sym, ◌∙◌, ap, subst, arith, inl, inr, append_assoc}
 use Rattle.std.proofs.lemmas.Bool.{false≢true}
-use Rattle.std.proofs.lemmas.Bool.Decides.{nat_tests, eqb_tells}
+use Rattle.std.proofs.lemmas.Bool.Decides.{eqb_tells}
 use Rattle.std.proofs.lemmas.List.{length-append}
 use Rattle.std.proofs.lemmas.List.Concat.{length-flat_map}
 use Rattle.std.proofs.lemmas.List.Elements.{All-append}
@@ -17,9 +17,8 @@ use Rattle.pim_graph.specs.Peaks.{needed}
 use Rattle.pim_isa.specs.Laws.{ExecLaws}
 use Rattle.pim_isa.specs.Programs.{PortsView}
 use Rattle.pim_isa.specs.Realizes.{Realizes}
-use Rattle.pim_isa.specs.Sound.{IsSound as IsSoundProgram, cells_of}
+use Rattle.pim_isa.specs.Sound.{IsSound as IsSoundProgram}
 use Rattle.pim_isa.specs.Steps.{bit, exec}
-use Rattle.pim_isa.specs.declared.instr.Operand.{Operand}
 use Rattle.pim_isa.specs.declared.instr.Operand.TheVariants as operand
 use Rattle.pim_isa.specs.declared.instr.Instr.{Instr}
 use Rattle.pim_isa.specs.declared.instr.Instr.TheVariants.{Rm3}
@@ -29,7 +28,7 @@ use Rattle.pim_rm3.specs.Gates.{is_input}
 use Rattle.pim_rm3.specs.Roles.{first_cost, is_plain, second_cost, temporary, third_cost}
 use Rattle.pim_rm3.specs.Schedules.{cell_of, is_inverted, load, operand_of, output_cell, set_to}
 use Rattle.pim_rm3.specs.SmartSchedules.{first_operand, gate_cells, inverse, second_operand, smart_instrs, smart_program, smart_schedule, step_instrs, temporary_instrs, third_instrs}
-use Rattle.pim_rm3.specs.Steps.{maj_at, mig_gates, mig_graph, smart_cost, step_cost, step_of}
+use Rattle.pim_rm3.specs.Steps.{mig_gates, mig_graph, smart_cost, step_cost, step_of}
 use Rattle.pim_rm3.specs.Temporaries.{full_graph, full_order, full_over, gate_number, own_temporary, step_takes, temporary_of, temporary_reads, with_temporary}
 use Rattle.pim_rm3.specs.declared.role.Role.{Role}
 use Rattle.pim_rm3.specs.declared.step.Step.{Step}
@@ -37,17 +36,17 @@ use Rattle.pim_rm3.specs.declared.step.Step.TheVariants as step
 use Rattle.pim_rm3.proofs.Lists.{has_whole}
 use Rattle.pim_rm3.proofs.Counts.{load_length, ports_hold, sum_same}
 use Rattle.pim_rm3.proofs.Finished.{input_cells, ports_within, range_distinct, range_within}
-use Rattle.pim_rm3.proofs.Fitting.{Fits, FitsOperand, all_flat, all_get, fits_load, fits_operand, fits_set, fits_valid, fits_writes, inverted_some, one_fits}
-use Rattle.pim_rm3.proofs.FullComputes.{IsReady, VoteAt, VotePlace, not_input, not_both, operand_off, read_at, role_operands, temporary_off, temporary_within, third_other, vote_is, zero_or_some}
-use Rattle.pim_rm3.proofs.FullKids.{ReadsNode, inverse_reads, reads_gate, reads_own, vote_node}
-use Rattle.pim_rm3.proofs.FullOrders.{AtGate, AtTemporary, flat, flat_has, here_is, place, roots_into}
+use Rattle.pim_rm3.proofs.Fitting.{Fits, FitsOperand, all_flat, all_get, fits_load, fits_operand, fits_set, fits_valid, fits_writes, one_fits}
+use Rattle.pim_rm3.proofs.FullComputes.{IsReady, VotePlace, not_input, not_both, operand_off, read_at, role_operands, temporary_off, temporary_within, third_other, vote_is, zero_or_some}
+use Rattle.pim_rm3.proofs.FullKids.{ReadsNode, inverse_reads, reads_gate}
+use Rattle.pim_rm3.proofs.FullOrders.{flat, flat_has, here_is, place, roots_into}
 use Rattle.pim_rm3.proofs.FullSound.{below}
 use Rattle.pim_rm3.proofs.FullValues.{IsRead, all_off, cells, constant_value, gate_cell, input_value, instrs_gate, instrs_of, instrs_temporary, operand_apart, operand_held, operand_within, placing, plain_value, temporary_value, value_gate, value_of, value_temporary}
 use Rattle.pim_rm3.proofs.Rows.{bool_cases, load_gives, set_gives}
-use Rattle.pim_rm3.proofs.StepLaws.{IsOf, ReadsOne, StepKind, kids_at, node_has_gate, of_node, role_at, step_kind, temporary_kids, temporary_one}
+use Rattle.pim_rm3.proofs.StepLaws.{IsOf, StepKind, kids_at, node_has_gate, of_node, role_at, step_kind, temporary_kids, temporary_one}
 use Rattle.pim_rm3.proofs.StepLaws.ReadsOne.{by_first, by_second, by_third}
 use Rattle.pim_rm3.proofs.StepLaws.StepKind.{constant, inverse as inverted, input, vote}
-use Rattle.pim_rm3.proofs.Stepping.{Computes, HoldsAt, Reads, all_held, cell_at, gate_at}
+use Rattle.pim_rm3.proofs.Stepping.{Computes, Reads, all_held, cell_at, gate_at}
 use Rattle.pim_rm3.proofs.Walks.{input_means, le_same, roots_have}
 
 none_some : (n : ℕ) → None ≡ Some n → ⊥

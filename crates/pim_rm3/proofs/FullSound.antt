@@ -1,31 +1,27 @@
 -- The order with temporaries is sound: each gate once and after what it reads, needed after its place; what is taken over is needed no
 -- longer; and it holds one value more at once, at most, than the order without.
-use Rattle.std.proofs.Common.{◌≡◌, ◌≢◌, ◌⊎◌, ℕ, zero, suc, ◌+◌, ◌-◌, ◌*◌, ◌/◌, ◌%◌, ◌<◌, ◌≤◌, max, Bool, true, false, cond, eqb, nat_lt, ◌&&◌, ◌||◌, not, List, [], ◌∷◌, ◌++◌, length, get_or, take, drop, flat_map, map, count_by, All, Option, Some, None, refl, sym, ◌∙◌, ap, subst, arith, inl, inr, length-append}
+use Rattle.std.proofs.Common.{◌≡◌, ◌≢◌, ℕ, ◌+◌, ◌-◌, ◌*◌, ◌/◌, ◌%◌, ◌<◌, ◌≤◌, Bool, true, false, cond, eqb, nat_lt, ◌&&◌, ◌||◌, not, List, [], ◌∷◌, ◌++◌, length, get_or, take, drop, All, Option, Some, None, refl, sym, ◌∙◌, ap, subst, arith, inl, inr, length-append}
 use Rattle.std.proofs.lemmas.Bool.{false≢true}
-use Rattle.std.proofs.lemmas.Bool.Decides.{nat_tests, eqb_tells}
 use Rattle.std.proofs.lemmas.List.{drop_more}
 use Rattle.pim_aig.specs.declared.literal.Lit.{Lit}
 use Rattle.pim_graph.specs.Allotments.{IsOver, taken_at}
 use Rattle.pim_graph.specs.Graphs.{GraphView, has, kids_of}
-use Rattle.pim_graph.specs.Peaks.{IsPlaced, needed, peak_from, read_by}
+use Rattle.pim_graph.specs.Peaks.{IsPlaced, needed, read_by}
 use Rattle.pim_graph.specs.Readers.{occurrences, reads}
 use Rattle.pim_mig.specs.Graph.{MigView, size}
 use Rattle.pim_rm3.specs.Steps.{can_be_taken, maj_at, mig_gates, mig_graph, step_of}
 use Rattle.pim_rm3.specs.Temporaries.{full_graph, full_order, full_over, gate_number, own_temporary, step_takes, temporary_of, with_temporary}
-use Rattle.pim_rm3.specs.declared.role.Role.{Role}
-use Rattle.pim_rm3.specs.declared.step.Step.{Step}
 use Rattle.pim_rm3.specs.declared.step.Step.TheVariants as step
 use Rattle.pim_rm3.proofs.Lists.{all_has, or_true, split, last, has_whole, has_here, one_has, has_front, has_back, has_either, in_drop}
 use Rattle.pim_rm3.proofs.Bounds.{get_or_same}
-use Rattle.pim_rm3.proofs.FullKids.{FullKid, full_kid, TemporaryKid, temporary_kid, ReadsNode, reads_gate, reads_own, vote_third}
+use Rattle.pim_rm3.proofs.FullKids.{FullKid, full_kid, temporary_kid, ReadsNode, reads_gate, reads_own, vote_third}
 use Rattle.pim_rm3.proofs.FullKids.FullKid.{node_kid, own_kid}
-use Rattle.pim_rm3.proofs.FullOrders.{flat, overs, AtGate, AtTemporary, Place, place, here_is, after_is, own_only, has_flat, flat_has, needed_alone, needed_with, temporary_needed}
-use Rattle.pim_rm3.proofs.GateOrders.{and_both, has-occurrences, is_eq, is_lt, lt_none, lt_some, not_true, or_lt, reads_drop, some_same}
+use Rattle.pim_rm3.proofs.FullOrders.{flat, AtGate, AtTemporary, place, here_is, after_is, own_only, has_flat, flat_has, needed_alone, needed_with}
+use Rattle.pim_rm3.proofs.GateOrders.{and_both, has-occurrences, is_eq, is_lt, lt_none, lt_some, not_true, or_lt, reads_drop}
 use Rattle.pim_rm3.proofs.RoleLaws.{least_in}
 use Rattle.pim_rm3.proofs.Rows.{bool_cases}
-use Rattle.pim_rm3.proofs.StepLaws.{StepKind, step_kind, role_at, full_count, order_there, IsOf, of_nodes, kids_at, ReadsOne}
+use Rattle.pim_rm3.proofs.StepLaws.{StepKind, step_kind, role_at, full_count, order_there}
 use Rattle.pim_rm3.proofs.StepLaws.StepKind.{constant, inverse, input, vote}
-use Rattle.pim_rm3.proofs.StepLaws.ReadsOne.{by_third}
 use Rattle.pim_rm3.proofs.Stepping.{read_before}
 
 -- what is known of the order without temporaries

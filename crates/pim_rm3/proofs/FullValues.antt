@@ -1,37 +1,28 @@
 -- What the instructions of a gate or a temporary leave in a row that holds what it reads.
-use Rattle.std.proofs.Common.{◌≡◌, ◌≢◌, ◌⊎◌, ℕ, zero, suc, ◌+◌, ◌-◌, ◌*◌, ◌/◌, ◌%◌, ◌<◌, ◌≤◌, Bool, true, false, cond, eqb, nat_le, nat_lt, ◌&&◌, ◌||◌, not, List, [], ◌∷◌, ◌++◌, length, get_or, take, drop, map, flat_map, All, Option, Some, None, refl, sym, ◌∙◌, ap, subst, arith, inl, inr}
-use Rattle.std.proofs.lemmas.Bool.{false≢true}
-use Rattle.std.proofs.lemmas.Bool.Decides.{nat_tests, eqb_tells, leb_tells}
+use Rattle.std.proofs.Common.{◌≡◌, ◌≢◌, ℕ, ◌+◌, ◌-◌, ◌*◌, ◌/◌, ◌%◌, ◌<◌, ◌≤◌, Bool, true, false, cond, eqb, List, [], ◌∷◌, length, get_or, map, Option, Some, None, refl, sym, ◌∙◌, ap, arith, inl, inr}
+use Rattle.std.proofs.lemmas.Bool.Decides.{nat_tests, leb_tells}
 use Rattle.std.proofs.lemmas.List.FromFn.{get_or-map-range_with_len}
-use Rattle.pim_aig.specs.Values.{literal_value}
 use Rattle.pim_aig.specs.declared.literal.Lit.{Lit}
-use Rattle.pim_graph.specs.Allotments.{AllotmentView, IsAllotment, IsOver, taken_at}
+use Rattle.pim_graph.specs.Allotments.{AllotmentView, taken_at}
 use Rattle.pim_graph.specs.Graphs.{has, kids_of}
-use Rattle.pim_graph.specs.Orders.{IsReached}
-use Rattle.pim_graph.specs.Orders.IsReached.{as_root, as_child}
-use Rattle.pim_graph.specs.Peaks.{IsPlaced, needed}
 use Rattle.pim_isa.specs.Laws.{ExecLaws}
-use Rattle.pim_isa.specs.Steps.{bit, exec, majority, step as step_row, value}
-use Rattle.pim_isa.specs.declared.instr.Operand.{Operand}
+use Rattle.pim_isa.specs.Steps.{bit, exec}
 use Rattle.pim_isa.specs.declared.instr.Operand.TheVariants as operand
 use Rattle.pim_isa.specs.declared.instr.Instr.{Instr}
 use Rattle.pim_isa.specs.declared.instr.Instr.TheVariants.{Rm3}
-use Rattle.pim_mig.specs.Graph.{IsMig, MigView, size}
+use Rattle.pim_mig.specs.Graph.{MigView, size}
 use Rattle.pim_mig.specs.Laws.{MajorityLaws}
 use Rattle.pim_mig.specs.Values.{majority as mig_majority, mval, node_values}
-use Rattle.pim_mig.specs.declared.node.Maj.{Maj}
-use Rattle.pim_rm3.specs.Gates.{is_input}
-use Rattle.pim_rm3.specs.Roles.{is_plain, temporary}
-use Rattle.pim_rm3.specs.Schedules.{cell_of, is_inverted, load, operand_of, set_to}
-use Rattle.pim_rm3.specs.SmartSchedules.{first_operand, gate_cells, inverse, second_operand, smart_instrs, step_instrs, temporary_instrs, third_instrs}
-use Rattle.pim_rm3.specs.Steps.{can_be_taken, maj_at, mig_gates, mig_graph, step_of}
-use Rattle.pim_rm3.specs.Temporaries.{full_graph, full_order, full_over, gate_number, own_temporary, step_takes, temporary_of, with_temporary}
+use Rattle.pim_rm3.specs.Schedules.{cell_of, load, set_to}
+use Rattle.pim_rm3.specs.SmartSchedules.{first_operand, gate_cells, inverse, second_operand, step_instrs, temporary_instrs, third_instrs}
+use Rattle.pim_rm3.specs.Steps.{maj_at, step_of}
+use Rattle.pim_rm3.specs.Temporaries.{full_graph, full_order, full_over, gate_number, temporary_of}
 use Rattle.pim_rm3.specs.declared.role.Role.{Role}
 use Rattle.pim_rm3.specs.declared.step.Step.{Step}
 use Rattle.pim_rm3.specs.declared.step.Step.TheVariants as step
 use Rattle.pim_rm3.proofs.Lists.{has_whole, has_of_take}
 use Rattle.pim_rm3.proofs.GateKinds.{lit_value, literal_constant, literal_plain}
-use Rattle.pim_rm3.proofs.Rows.{at_target, bool_cases, lit_bit, lit_inverted, lit_same, load_gives, load_off, off_target, operand_value, set_gives, set_off}
+use Rattle.pim_rm3.proofs.Rows.{bool_cases, lit_bit, load_off, off_target, set_off}
 use Rattle.pim_rm3.proofs.Stepping.{Placing, IsSound, Reads, gate_at, cell_at, read_before, read_needed}
 use Rattle.pim_rm3.proofs.Walks.{cell_gate, cell_input}
 

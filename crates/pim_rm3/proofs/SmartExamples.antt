@@ -1,5 +1,5 @@
 -- Worked examples of the smart schedule, by computation: the exclusive or in four cells, and a majority of three inputs with a temporary.
-use Rattle.std.proofs.Common.{◌≡◌, ℕ, Bool, true, false, List, [], ◌∷◌, map, Option, Some, None, refl}
+use Rattle.std.proofs.Common.{◌≡◌, ℕ, true, false, List, [], ◌∷◌, map, Some, None, refl}
 use Rattle.pim_aig.specs.declared.literal.Lit.{Lit}
 use Rattle.pim_isa.specs.Steps.{exec}
 use Rattle.pim_isa.specs.declared.instr.Operand.TheVariants.{Zero, One, Cell}
@@ -12,7 +12,6 @@ use Rattle.pim_rm3.specs.SmartSchedules.{smart_schedule}
 use Rattle.pim_rm3.specs.Steps.{can_be_taken, enough_of, mig_gates, smart_cost, step_of}
 use Rattle.pim_rm3.specs.Temporaries.{full_order, full_over}
 use Rattle.pim_rm3.specs.declared.step.Step.TheVariants as step
-use Rattle.pim_rm3.proofs.Lists.{last}
 
 abbrev lit : ℕ → Lit
 lit l = record { 0 = l }

@@ -1,5 +1,5 @@
 -- How the gates of a majority graph are computed, and which gates read which, with temporaries as gates and without.
-use Rattle.std.proofs.Common.{◌≡◌, ◌≢◌, ◌⊎◌, ℕ, zero, suc, ◌+◌, ◌-◌, ◌*◌, ◌/◌, ◌%◌, ◌<◌, ◌≤◌, Bool, true, false, cond, eqb, nat_le, nat_lt, ◌&&◌, ◌||◌, not, List, [], ◌∷◌, ◌++◌, length, get_or, map, All, Option, Some, None, refl, sym, ◌∙◌, ap, subst, arith, inl, inr, length-append}
+use Rattle.std.proofs.Common.{◌≡◌, ◌≢◌, ℕ, ◌+◌, ◌-◌, ◌*◌, ◌/◌, ◌%◌, ◌<◌, ◌≤◌, Bool, true, false, cond, eqb, nat_le, nat_lt, List, [], ◌∷◌, ◌++◌, length, get_or, map, All, Option, Some, None, refl, sym, ◌∙◌, ap, subst, arith, inl, inr, length-append}
 use Rattle.std.proofs.lemmas.Bool.{false≢true}
 use Rattle.std.proofs.lemmas.Bool.Decides.{nat_tests, eqb_tells, leb_tells}
 use Rattle.std.proofs.lemmas.List.Elements.{All-append, All-cons}
@@ -10,7 +10,7 @@ use Rattle.pim_graph.specs.Orders.{order}
 use Rattle.pim_graph.specs.Peaks.{IsPlaced}
 use Rattle.pim_mig.specs.Graph.{IsMig, MigView, size}
 use Rattle.pim_mig.specs.declared.node.Maj.{Maj}
-use Rattle.pim_rm3.specs.Roles.{is_plain, least_role, role, temporary}
+use Rattle.pim_rm3.specs.Roles.{is_plain, least_role, temporary}
 use Rattle.pim_rm3.specs.Schedules.{is_inverted}
 use Rattle.pim_rm3.specs.Steps.{can_be_taken, gate_reads, maj_at, mig_gates, mig_graph, node_read, nodes_read, step_of, voted}
 use Rattle.pim_rm3.specs.Temporaries.{all_reads, full_graph, gate_number, gate_read, own_temporary, step_reads, temporary_of, temporary_reads}

@@ -1,8 +1,7 @@
 -- The row after the gates up to a place: each gate that is needed there has its value in its cell.
-use Rattle.std.proofs.Common.{◌≡◌, ◌≢◌, ◌⊎◌, ℕ, zero, suc, ◌+◌, ◌-◌, ◌*◌, ◌/◌, ◌%◌, ◌<◌, ◌≤◌, Bool, true, false, cond, eqb, nat_le, nat_lt, ◌&&◌, ◌||◌, List, [], ◌∷◌, ◌++◌, length, get_or, take, drop, fold, map, flat_map, All, Option, Some, None, refl, sym, ◌∙◌, ap, subst, arith, inl, inr}
+use Rattle.std.proofs.Common.{◌≡◌, ◌≢◌, ◌⊎◌, ℕ, zero, suc, ◌+◌, ◌-◌, ◌*◌, ◌/◌, ◌%◌, ◌<◌, ◌≤◌, Bool, true, false, cond, eqb, nat_le, nat_lt, ◌&&◌, List, [], ◌∷◌, ◌++◌, length, get_or, take, drop, fold, map, Option, Some, None, refl, sym, ◌∙◌, ap, subst, arith, inl, inr}
 use Rattle.std.proofs.lemmas.Bool.{false≢true, and_parts, eqb-true, leb-true, ltb-true}
 use Rattle.std.proofs.lemmas.Bool.Decides.{nat_tests, eqb_tells, leb_tells}
-use Rattle.std.proofs.lemmas.List.{drop_more, take_more, flat_map_more, get_or-take}
 use Rattle.std.proofs.lemmas.List.FromFn.{length-map-range_with_len}
 use Rattle.std.proofs.Math.ListN.{drop_of_length-le}
 use Rattle.std.proofs.Math.Seq.{take-length}
@@ -13,10 +12,9 @@ use Rattle.pim_graph.specs.Allotments.{AllotmentView, taken_at}
 use Rattle.pim_graph.specs.Graphs.{has, kids_of}
 use Rattle.pim_graph.specs.Orders.{IsReached}
 use Rattle.pim_graph.specs.Orders.IsReached.{as_root, as_child}
-use Rattle.pim_graph.specs.Peaks.{needed, read_by}
+use Rattle.pim_graph.specs.Peaks.{needed}
 use Rattle.pim_isa.specs.Laws.{ExecLaws}
 use Rattle.pim_isa.specs.Steps.{bit, exec}
-use Rattle.pim_isa.specs.declared.instr.Instr.{Instr}
 use Rattle.pim_rm3.specs.Gates.{ands_read, gate_graph, gate_of, gates, is_input, taken, taken_of, with_and, with_root}
 use Rattle.pim_rm3.specs.Schedules.{cell_of, gate_instrs, instrs_at, load, narrow, output_cell, schedule}
 use Rattle.pim_rm3.specs.declared.gate.Gate.{Gate}
@@ -27,7 +25,7 @@ use Rattle.pim_rm3.proofs.GateKinds.{Kind, kind_of, kids_at, and_of, first_read,
 use Rattle.pim_rm3.proofs.GateKinds.Kind.{constant, inverse, input, meet}
 use Rattle.pim_rm3.proofs.GateOrders.{IsTakenOver, taken_over, taken_map}
 use Rattle.pim_rm3.proofs.GateOrders.IsTakenOver.{by_first, by_second}
-use Rattle.pim_rm3.proofs.Stepping.{Computes, HoldsAt, IsSound, Placing, Reads, all_held, read_before, read_needed}
+use Rattle.pim_rm3.proofs.Stepping.{Computes, HoldsAt, IsSound, Placing, Reads, all_held, read_needed}
 use Rattle.pim_rm3.proofs.Rows.{and_turns, bool_cases, lit_bit, lit_same, load_gives, load_off, narrow_gives, narrow_off, set_gives, set_off}
 
 -- the gates of a graph with these cells

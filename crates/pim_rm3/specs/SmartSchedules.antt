@@ -1,5 +1,5 @@
 -- The instructions of the gates of a majority graph, and the whole program.
-use Rattle.std.specs.Prelude.{ℕ, ◌+◌, ◌*◌, ◌/◌, ◌%◌, ◌==◌, if◌then◌else◌, List, [], ◌∷◌, ◌++◌, flat_map, map, slice_index, Option, Some, None}
+use Rattle.std.specs.Prelude.{ℕ, ◌+◌, ◌*◌, ◌/◌, ◌==◌, if◌then◌else◌, List, [], ◌∷◌, ◌++◌, flat_map, map, slice_index, Option, Some, None}
 use Rattle.std.specs.List.{range_with_len}
 use Rattle.pim_aig.specs.declared.literal.Lit.{Lit}
 use Rattle.pim_graph.specs.Allotments.{AllotmentView}

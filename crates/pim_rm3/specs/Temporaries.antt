@@ -1,6 +1,6 @@
 -- The gates of a majority graph with temporaries as gates of their own. The gate of a literal has twice the literal's number and one
 -- more, and the temporary that is made for it, if there is one, has twice that number.
-use Rattle.std.specs.Prelude.{ℕ, ◌+◌, ◌*◌, ◌/◌, ◌%◌, ◌==◌, nat_lt, Bool, if◌then◌else◌, List, [], ◌∷◌, ◌++◌, flat_map, fold, map, Option, Some, None}
+use Rattle.std.specs.Prelude.{ℕ, ◌+◌, ◌*◌, ◌/◌, ◌%◌, ◌==◌, nat_lt, if◌then◌else◌, List, [], ◌∷◌, ◌++◌, flat_map, fold, map, Option, Some, None}
 use Rattle.std.specs.List.{range_with_len}
 use Rattle.pim_aig.specs.declared.literal.Lit.{Lit}
 use Rattle.pim_graph.specs.Allotments.{cells_along}
@@ -8,7 +8,6 @@ use Rattle.pim_graph.specs.Graphs.{GraphView, has}
 use Rattle.pim_mig.specs.Graph.{MigView, size}
 use Rattle.pim_rm3.specs.Roles.{temporary}
 use Rattle.pim_rm3.specs.Steps.{mig_gates, mig_graph, step_of}
-use Rattle.pim_rm3.specs.declared.role.Role.{Role}
 use Rattle.pim_rm3.specs.declared.step.Step.{Step}
 use Rattle.pim_rm3.specs.declared.step.Step.TheVariants as step
 

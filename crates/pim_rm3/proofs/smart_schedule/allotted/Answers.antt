@@ -1,10 +1,10 @@
-use Rattle.std.proofs.Common.{◌≡◌, ℕ, ◌+◌, ◌*◌, ◌<◌, ◌≤◌, All, List, Option, drop, get_or, length, true, sym, subst, ◌∙◌, ap, arith}
+use Rattle.std.proofs.Common.{◌≡◌, ℕ, ◌+◌, ◌*◌, ◌<◌, All, List, Option, drop, get_or, length, true, sym, subst, ◌∙◌, ap, arith}
 use Rattle.pim_graph.specs.Allotments.{IsOver, cells_along}
 use Rattle.pim_graph.specs.Graphs.{GraphView}
 use Rattle.pim_graph.specs.Orders.{order}
 use Rattle.pim_graph.specs.Peaks.{IsPlaced, needed, peak}
 use Rattle.pim_mig.specs.Graph.{size}
-use Rattle.pim_rm3.specs.Steps.{mig_gates, mig_graph}
+use Rattle.pim_rm3.specs.Steps.{mig_gates}
 use Rattle.pim_rm3.specs.Temporaries.{full_graph, full_order, full_over}
 use Rattle.pim_rm3.proofs.FullPeaks.{full_peak}
 use Rattle.pim_rm3.proofs.FullSound.{flat_length, full_needed, full_placed, full_sound, ordered}

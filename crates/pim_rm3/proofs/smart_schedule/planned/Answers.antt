@@ -1,8 +1,6 @@
-use Rattle.std.proofs.Common.{◌≡◌, ℕ, ◌*◌, ◌<◌, ◌≤◌, All, List, length, subst, ◌∙◌, ap, arith}
+use Rattle.std.proofs.Common.{ℕ, All, List, length, subst, ◌∙◌, ap, arith}
 use Rattle.pim_graph.specs.Graphs.{GraphView}
 use Rattle.pim_graph.specs.Orders.{IsReached, order}
-use Rattle.pim_mig.specs.Graph.{size}
-use Rattle.pim_rm3.specs.Steps.{mig_gates}
 use Rattle.pim_rm3.proofs.StepLaws.{kids_count, order_placed, order_there}
 use Rattle.pim_rm3.proofs.smart_schedule.planned.Goals as goal
 
