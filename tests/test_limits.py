@@ -66,7 +66,8 @@ def test_the_bytes_of_a_name(pim, folder):
     name = "n" * 4_096
     program = ports_alone([name], [name])
     gives(compile_with(pim, f".inputs {name}\n.outputs {name}\n".encode(), 1), program)
-    stops(compile_with(pim, f".inputs {name}n\n".encode(), 1), 7, "too large: name")
+    for before in ".inputs ", ".outputs ", ".inputs a\n.names a ", ".names f\n.names ":
+        stops(compile_with(pim, f"{before}{name}n\n".encode(), 1), 7, "too large: name")
     symbols = f"aag 1 1 0 1 0\n2\n2\ni0 {name}\no0 {name}".encode()
     gives(compile_with(pim, symbols, 1), program)
     stops(compile_with(pim, symbols + b"n", 1), 7, "too large: name")
@@ -86,6 +87,17 @@ def test_the_bytes_of_the_vectors(pim, folder):
     answer = pim("run", path, stdin=line * 664_445)
     stops(answer, 7, "too large: bytes", b"1\n" * (162 * 4_096))
     gives(pim("run", path, stdin=line * 664_444), b"1\n" * 664_444)
+
+
+def test_the_last_bytes_of_the_vectors(pim, folder):
+    """Of lines of 65 bytes 1,032,444 end within the limit, and four bytes of the next are within it. At the limit these four are a
+    line, a wrong one. With one byte more there are too many. The results of the 252 tiles that are full are written before."""
+    path = folder / "wide.pim"
+    path.write_bytes(ports_alone([f"i{k}" for k in range(64)], ["o"]))
+    vectors = (b"1" * 64 + b"\n") * 1_032_445
+    results = b"1\n" * (252 * 4_096)
+    stops(pim("run", path, stdin=vectors[:MOST_BYTES]), 1, "bad input: vector line 1032445", results)
+    stops(pim("run", path, stdin=vectors[:MOST_BYTES + 1]), 7, "too large: bytes", results)
 
 
 def test_the_lines_of_vectors(pim, folder):

@@ -3,8 +3,6 @@
 
 mod drawn;
 mod netlist;
-#[cfg(test)]
-mod tests;
 
 pub use drawn::Rows;
 pub use netlist::{MAX_BITS, adder};

@@ -1,14 +1,10 @@
-ghost use Rattle.std.specs.Prelude.{◌≡◌, ◌+◌, ◌*◌, ◌<◌, ◌≤◌, ◌++◌, ◌∷◌, [], length, map, IfOk, OnOk};
+ghost use Rattle.std.specs.Prelude.{◌≡◌, ◌+◌, ◌*◌, ◌<◌, ◌≤◌, ◌++◌, [], length, map, IfOk, OnOk};
 ghost use Rattle.std.specs.List.{flat_map, range_with_len};
-ghost use Rattle.std.specs.Fmt.{decimal};
-ghost use Rattle.pim_io.specs.Names.{label};
-ghost use Rattle.pim_io.specs.declared.limits.TheConstants.{MAX_NAME};
 ghost use Rattle.pim_net.specs.Netlist.{draft_of};
-ghost use Rattle.pim_net.specs.declared.limits.TheConstants.{MAX_SIGNALS};
-ghost use Rattle.pim_adder.specs.Adders.{adder, bit_equations, carry_equation, columns, numbered, plain, sum, sum_equation};
+ghost use Rattle.pim_adder.specs.Adders.{adder, bit_equations, carry_equation, numbered, plain, sum, sum_equation};
 
 use pim_io::NoMemory;
-use pim_net::{Bit3, Cover, Draft, Net, OutRef};
+use pim_net::{Bit3, Cover, Draft, Net, OutRef, numbered};
 use std::alloc::Global;
 
 /// The most bits of a number.
@@ -23,11 +19,11 @@ pub fn adder(alloc: Global, bits: u32) -> Result<Net, NoMemory>
     let mut draft = Draft::new(alloc);
     add_inputs(alloc, &mut draft, b'a', 0, bits)?;
     add_inputs(alloc, &mut draft, b'b', bits, bits)?;
-    let carry = name(alloc, b'c', 0)?;
+    let carry = numbered(alloc, b'c', 0)?;
     draft.add_input(2 * bits, &carry)?;
     add_bits(alloc, &mut draft, bits)?;
     add_sums(alloc, &mut draft, bits)?;
-    let carry = name(alloc, b'c', bits)?;
+    let carry = numbered(alloc, b'c', bits)?;
     let last = OutRef {
         sig: 2 * bits + 2 * bits,
         neg: false,
@@ -37,18 +33,6 @@ pub fn adder(alloc: Global, bits: u32) -> Result<Net, NoMemory>
         Ok(net) => Ok(net),
         Err(_) => Err(NoMemory),
     }
-}
-
-/// A letter and a number.
-fn name(alloc: Global, letter: u8, k: u32) -> Result<Vec<u8>, NoMemory>
-    ensures text { IfOk result (λ text. text.items ≡ letter ∷ decimal k) }
-    ensures short { IfOk result (λ text. length text.items ≤ MAX_NAME) }
-{
-    let digits = format!(in alloc; "{k}")?;
-    let mut text = Vec::new(alloc);
-    text.push(letter)?;
-    text.extend_from_slice(digits.as_bytes())?;
-    Ok(text)
 }
 
 /// Adds the bits of a number as inputs, by its letter, from the signal of its first bit on.
@@ -69,7 +53,7 @@ fn add_inputs(
     ensures count { OnOk result (length draft.new.inputs ≡ length draft.old.inputs + bits) }
 {
     for k in 0..bits {
-        let name = name(alloc, letter, k)?;
+        let name = numbered(alloc, letter, k)?;
         draft.add_input(start + k, &name)?;
     }
     Ok(())
@@ -85,7 +69,7 @@ fn add_sums(alloc: Global, draft: &mut Draft, bits: u32) -> Result<(), NoMemory>
     }) }
 {
     for k in 0..bits {
-        let name = name(alloc, b's', k)?;
+        let name = numbered(alloc, b's', k)?;
         let out = OutRef {
             sig: 2 * bits + 2 * k + 1,
             neg: false,

@@ -5,4 +5,5 @@ pub mod Flat
 pub mod Graph
 pub mod Laws
 pub mod Literals
+pub mod Moving
 pub mod Values

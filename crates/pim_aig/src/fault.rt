@@ -5,10 +5,10 @@ use thiserror::Error;
 /// Why a netlist has no flat graph.
 #[derive(Clone, Copy, Debug, PartialEq, Eq, Error)]
 pub enum FlatFault {
-    /// The AND nodes of all equations are more than 1,048,576.
+    /// The AND nodes of all equations are more than `MAX_ANDS`.
     #[error("too many AND nodes")]
     TooLarge,
-    /// There was no memory.
+    /// An allocation was refused.
     #[error("no memory")]
     NoMemory,
 }

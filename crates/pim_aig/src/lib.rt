@@ -8,8 +8,10 @@ mod fault;
 mod flattening;
 mod graph;
 mod literal;
+mod moving;
 
 pub use fault::FlatFault;
 pub use flattening::flatten;
 pub use graph::{Aig, And, MAX_ANDS, MAX_INPUTS, MAX_OUTPUTS};
 pub use literal::Lit;
+pub use moving::{moved, plain_literals};

@@ -14,7 +14,7 @@ use Rattle.pim_aiger.specs.declared.fault.AigerFault.TheVariants as faults
 use Rattle.pim_aiger.specs.Numbers.{HeaderView}
 use Rattle.pim_aiger.specs.Cursor.{Cursor}
 use Rattle.pim_io.specs.Readings.{◌>>=◌}
-use Rattle.pim_aiger.specs.TextLines.{text_of}
+use Rattle.pim_io.specs.Lines.{text_of}
 
 -- whether a symbol names an input or an output
 pub data Port : Type 0 where

@@ -6,10 +6,6 @@ use Rattle.pim_aiger.specs.declared.fault.AigerFault.{AigerFault}
 use Rattle.pim_aiger.specs.declared.fault.AigerFault.TheVariants as faults
 use Rattle.pim_aiger.specs.Cursor.{Cursor, end_of, further}
 
--- the text of a line: a carriage return right before the newline is no part of it
-abbrev pub text_of : LineView → List ℕ
-text_of line = if line.ended then without_return line.text else line.text
-
 -- the first of the lines, where it ends in a newline
 abbrev pub whole_line : Cursor → List LineView → Result (List ℕ × Cursor) AigerFault
 whole_line c [] = Err (faults.Truncated (end_of c))

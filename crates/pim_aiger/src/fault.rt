@@ -10,34 +10,36 @@ use thiserror::Error;
 /// code is told by the place of its first byte.
 #[derive(Debug, Drop, Error)]
 pub enum AigerFault {
-    /// The tag is missing, or the numbers of the header are of another shape or contradict each other.
+    /// The tag is missing, the header is not five numbers, or the greatest variable is below the inputs and gates together (in
+    /// the binary form: not equal to them).
     #[error("the header is wrong")]
     Header,
-    /// The header asks for latches, which a combinational netlist has not.
+    /// The header tells latches, which a combinational netlist has not. It is judged before the greatest variable.
     #[error("there are latches")]
     Latches,
-    /// The line at this place has not the numbers that it is to have.
+    /// The line at this place has not as many numbers as it is to have, or something else.
     #[error("a line has other numbers")]
     Number(u32),
-    /// The line at this place has a literal that may not stand there.
+    /// The line at this place has a literal that may not stand there: one past the greatest variable, or a complemented or
+    /// constant one where an input or a gate is told.
     #[error("a literal is out of place")]
     Literal(u32),
     /// The bytes end, at this place, inside a line or a code that is to be there.
     #[error("the bytes end too early")]
     Truncated(u32),
-    /// The code at this place is too long, or leads to no literal.
+    /// The code at this place is too long, or its difference leads to no smaller literal.
     #[error("a code leads to no literal")]
     Delta(u32),
-    /// The line at this place is no symbol of an input or an output that is there.
+    /// The line at this place is no symbol, or the symbol of an input or an output that the header doesn't tell.
     #[error("a symbol is wrong")]
     Symbol(u32),
     /// The netlist is not well-formed; the labels of the signals that the fault names, of which variable 7 is called `v7`.
     #[error("the netlist is not well-formed")]
     Net(NetFault, Names),
-    /// A count passes its limit.
+    /// The header tells more signals or outputs than their limits, or a symbol has a name of more than `MAX_NAME` bytes.
     #[error("a count passes its limit")]
     TooLarge(Kind),
-    /// There was no memory.
+    /// An allocation was refused.
     #[error("no memory")]
     NoMemory,
 }

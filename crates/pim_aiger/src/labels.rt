@@ -3,25 +3,12 @@ ghost use Rattle.std.specs.Fmt.{decimal};
 ghost use Rattle.pim_io.specs.Names.{label};
 ghost use Rattle.pim_aiger.specs.Files.{labels_of};
 ghost use Rattle.pim_aiger.specs.SymbolTable.{all_labels};
-ghost use Rattle.pim_io.specs.declared.limits.TheConstants.{MAX_NAME};
 ghost use Rattle.pim_net.specs.declared.limits.TheConstants.{MAX_OUTPUTS, MAX_SIGNALS};
 
 use crate::names::GivenName;
 use pim_io::NoMemory;
-use pim_net::{Draft, Names, OutRef};
+use pim_net::{Draft, Names, OutRef, numbered};
 use std::alloc::Global;
-
-/// A letter and a number: what an input, an output or a signal is called that has no name.
-fn numbered(alloc: Global, letter: u8, k: u32) -> Result<Vec<u8>, NoMemory>
-    ensures text { IfOk result (λ text. text.items ≡ letter ∷ decimal k) }
-    ensures short { IfOk result (λ text. length text.items ≤ MAX_NAME) }
-{
-    let digits = format!(in alloc; "{k}")?;
-    let mut text = Vec::new(alloc);
-    text.push(letter)?;
-    text.extend_from_slice(digits.as_bytes())?;
-    Ok(text)
-}
 
 /// Adds input k of a draft, by its name or else as `i` and k.
 fn add_input(

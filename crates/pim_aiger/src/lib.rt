@@ -6,7 +6,6 @@ mod fault;
 mod file;
 mod header;
 mod labels;
-mod line;
 mod literal;
 mod names;
 mod parts;
@@ -16,6 +15,3 @@ mod words;
 
 pub use fault::AigerFault;
 pub use file::{is_aiger, read, read_binary, read_text};
-
-#[cfg(test)]
-mod tests;

@@ -7,9 +7,8 @@ ghost use Rattle.pim_aiger.specs.inner.Views.{header_view};
 
 use crate::fault::AigerFault;
 use crate::header::Header;
-use crate::line::{is_comment, text_of};
-use crate::symbol::{Port, symbol_of};
-use pim_io::{MAX_NAME, NoMemory, Scan};
+use crate::symbol::{Port, is_comment, symbol_of};
+use pim_io::{MAX_NAME, NoMemory, Scan, text_of};
 use pim_net::Kind;
 use std::alloc::Global;
 use std::marker::Model;

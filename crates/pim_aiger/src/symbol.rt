@@ -1,6 +1,6 @@
 ghost use Rattle.std.specs.Prelude.{◌≡◌, ◌==◌, ◌<◌, length, option_map, IfSome};
 ghost use Rattle.std.specs.List.{position};
-ghost use Rattle.pim_aiger.specs.SymbolTable.{count_of, symbol_of, with_space};
+ghost use Rattle.pim_aiger.specs.SymbolTable.{count_of, is_comment, symbol_of, with_space};
 ghost use Rattle.pim_aiger.specs.inner.Views.{header_view, port_view, symbol_view};
 
 use crate::header::Header;
@@ -31,6 +31,16 @@ pub(crate) struct Symbol<'a> {
     pub(crate) port: Port,
     pub(crate) position: u32,
     pub(crate) name: &'a [u8],
+}
+
+/// Whether a line ends the table of symbols.
+pub(crate) fn is_comment(text: &[u8]) -> bool
+    ensures { result ≡ is_comment text.now }
+{
+    match text {
+        [first, ..] => *first == b'c',
+        [] => false,
+    }
 }
 
 /// The symbol that a line spells: `i` or `o` and a position, up to the first space, and after it a name that is not empty.

@@ -28,10 +28,10 @@ pub enum BlifFault {
     /// The netlist is not well-formed; the labels of the signals that the fault names.
     #[error("the netlist is not well-formed")]
     Net(NetFault, Names),
-    /// A count passes its limit.
+    /// A line brings more signals or outputs than their limits, or a name of more than `MAX_NAME` bytes.
     #[error("a count passes its limit")]
     TooLarge(Kind),
-    /// There was no memory.
+    /// An allocation was refused.
     #[error("no memory")]
     NoMemory,
 }

@@ -18,6 +18,3 @@ mod word;
 
 pub use fault::BlifFault;
 pub use file::read;
-
-#[cfg(test)]
-mod tests;

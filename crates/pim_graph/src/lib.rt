@@ -9,8 +9,6 @@ mod ordering;
 mod peaks;
 mod readers;
 mod spares;
-#[cfg(test)]
-mod tests;
 mod trees;
 mod usages;
 mod walk;

@@ -28,6 +28,10 @@ is_newline b = b == 10
 abbrev pub without_return : List ℕ → List ℕ
 without_return text = if slice_index text (length text - 1) == 13 then take (length text - 1) text else text
 
+-- the text of a line: a carriage return right before its newline is no part of it
+abbrev pub text_of : LineView → List ℕ
+text_of line = if line.ended then without_return line.text else line.text
+
 -- the lines from the line `number` on, which begins at the place `start` with `text`; the bytes follow that
 abbrev pub lines_after : ℕ → ℕ → List ℕ → List ℕ → List LineView
 lines_after number start text [] = last_line number start text

@@ -14,8 +14,6 @@ mod scan;
 mod sink;
 mod slice_source;
 mod source;
-#[cfg(test)]
-mod tests;
 mod words;
 mod write_sink;
 mod writing;
@@ -28,7 +26,7 @@ pub use memory::NoMemory;
 pub use name::{Name, is_label};
 pub use read_source::ReadSource;
 pub use reading::{ReadAllFault, read_all};
-pub use scan::{Line, Scan, without_return};
+pub use scan::{Line, Scan, text_of, without_return};
 pub use sink::{Sink, SinkFault};
 pub use slice_source::SliceSource;
 pub use source::{Source, SourceFault};

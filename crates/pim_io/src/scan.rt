@@ -1,5 +1,5 @@
 ghost use Rattle.std.specs.Prelude.{◌≡◌, ℕ, ◌∷◌, ◌<◌, ◌≤◌, ◌^◌, [], true, false, length, slice_index, IfSome, MatchOption};
-ghost use Rattle.pim_io.specs.Lines.{line_view, lines_left, after_line, is_newline, without_return};
+ghost use Rattle.pim_io.specs.Lines.{line_view, lines_left, after_line, is_newline, text_of, without_return};
 
 use memchr::memchr;
 use std::marker::Model;
@@ -83,6 +83,17 @@ impl<'a> Scan<'a> {
             text: bytes,
             ended: false,
         })
+    }
+}
+
+/// The text of a line: a carriage return right before its newline is no part of it.
+pub fn text_of<'a>(line: &Line<'a>) -> &'a [u8]
+    ensures { result.now ≡ text_of (line_view line.now) }
+{
+    if line.ended {
+        without_return(line.text)
+    } else {
+        line.text
     }
 }
 

@@ -1,6 +1,7 @@
 ghost use Rattle.std.specs.Prelude.{◌≡◌, ℕ, ◌+◌, ◌<◌, ◌≤◌, ◌^◌, [], ◌∷◌, ◌++◌, true, false, ◌||◌, nat_le, if◌then◌else◌, length, slice_index_or, slice_set, Some, None, All, OnOk, OnErr};
 ghost use Rattle.std.specs.Option.{option_or};
 ghost use Rattle.pim_io.specs.Names.{label as label_of};
+ghost use Rattle.pim_io.specs.declared.limits.TheConstants.{MAX_NAME};
 ghost use Rattle.pim_isa.specs.PortLists.{input_ports};
 ghost use Rattle.pim_isa.specs.Validity.{fault_of};
 ghost use Rattle.pim_isa.specs.Sound.{HasLabel};
@@ -76,14 +77,14 @@ impl ProgramDraft {
     }
 
     /// Appends an input at the cell, with the label of this name. A call that is refused changes nothing.
-    pub fn add_input(&mut self, cell: u32, label: &[u8]) -> Result<(), NoMemory>
-        requires some { 0 < length label.now }
-        requires short { length label.now ≤ 4096 }
+    pub fn add_input(&mut self, cell: u32, name: &[u8]) -> Result<(), NoMemory>
+        requires some { 0 < length name.now }
+        requires short { length name.now ≤ MAX_NAME }
         ensures ok { OnOk result
-            (self.new ≡ record self.old { inputs = self.old.inputs ++ (record { cell = cell; label = label_of label.now }) ∷ [] }) }
+            (self.new ≡ record self.old { inputs = self.old.inputs ++ (record { cell = cell; label = label_of name.now }) ∷ [] }) }
         ensures err { OnErr result (self.new ≡ self.old) }
     {
-        let label = Name::label(self.alloc, label)?;
+        let label = Name::label(self.alloc, name)?;
         make_room(&mut self.marks, self.cells, cell)?;
         let place = self.inputs.len();
         self.inputs.push(Port { cell, label })?;
@@ -106,14 +107,14 @@ impl ProgramDraft {
     }
 
     /// Appends an output at the cell, with the label of this name. A call that is refused changes nothing.
-    pub fn add_output(&mut self, cell: u32, label: &[u8]) -> Result<(), NoMemory>
-        requires some { 0 < length label.now }
-        requires short { length label.now ≤ 4096 }
+    pub fn add_output(&mut self, cell: u32, name: &[u8]) -> Result<(), NoMemory>
+        requires some { 0 < length name.now }
+        requires short { length name.now ≤ MAX_NAME }
         ensures ok { OnOk result
-            (self.new ≡ record self.old { outputs = self.old.outputs ++ (record { cell = cell; label = label_of label.now }) ∷ [] }) }
+            (self.new ≡ record self.old { outputs = self.old.outputs ++ (record { cell = cell; label = label_of name.now }) ∷ [] }) }
         ensures err { OnErr result (self.new ≡ self.old) }
     {
-        let label = Name::label(self.alloc, label)?;
+        let label = Name::label(self.alloc, name)?;
         self.outputs.push(Port { cell, label })?;
         Ok(())
     }

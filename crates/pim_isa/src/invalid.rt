@@ -1,8 +1,8 @@
 use thiserror::Error;
 
-/// Why a draft is no program: the first fault, with the place of the instruction or of the port. Ports are judged
-/// before instructions, and instructions in order, each for these reasons in the order `WrongTarget`, `InitList`,
-/// `CellRange`, `TargetRead`.
+/// Why a draft is no program: its first fault, with the place, from 0, of the instruction or of the port. Ports are judged
+/// before instructions, inputs before outputs, each in order. An instruction is judged for these reasons in the order
+/// `WrongTarget`, `InitList`, `CellRange`, `TargetRead`.
 #[derive(Clone, Copy, Debug, PartialEq, Eq, Error)]
 pub enum Invalid {
     /// A cell that the instruction names isn't below the number of cells.
@@ -21,7 +21,8 @@ pub enum Invalid {
     #[error("the cells of an Init are missing or out of order")]
     InitList(u32),
 
-    /// The cell of a port isn't below the number of cells, or an input cell is repeated. Outputs count on after the inputs.
+    /// The cell of a port isn't below the number of cells, or an input lies in the cell of an earlier input. Outputs count on
+    /// after the inputs.
     #[error("a port lies outside the cells or on another input")]
     Port(u32),
 }

@@ -12,8 +12,6 @@ mod port;
 mod program;
 mod row;
 mod target;
-#[cfg(test)]
-mod tests;
 
 pub use cells::Cells;
 pub use draft::{MAX_CELLS, MAX_INSTRS, MAX_PORTS, ProgramDraft};

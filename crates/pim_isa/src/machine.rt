@@ -1,6 +1,5 @@
 ghost use Rattle.std.specs.Prelude.{◌≡◌, ◌<◌, ◌≤◌, ◌↔◌, Bool, List, length, slice_get, IsTrue, IsNone, IfOk};
 ghost use Rattle.pim_isa.specs.Steps.{exec_k};
-ghost use Rattle.pim_io.specs.Bits.{bits_of};
 ghost use Rattle.pim_isa.specs.Results.{load, IsLoaded};
 ghost use Rattle.pim_isa.specs.Machines.{next_of};
 
@@ -53,19 +52,6 @@ impl<'a> Machine<'a> {
             row,
             at: 0,
         })
-    }
-
-    /// Back to the start, with the bits of a line of as many characters `0` and `1` as inputs. Linear in the cells.
-    pub fn reload(&mut self, line: &[u8], fill: Fill)
-        requires { length line.now ≡ length self.old.program.inputs }
-        ensures state { self.new ≡ record self.old { row = load self.old.program fill (bits_of line.now); at = 0 } }
-
-        // The same cell by cell.
-        ensures loaded { IsLoaded self.old.program fill (bits_of line.now) self.new.row }
-    {
-        self.row.refill(fill);
-        self.row.put_line(self.program.inputs(), line);
-        self.at = 0;
     }
 
     /// Executes the next instruction. False exactly at the end, where nothing changes.

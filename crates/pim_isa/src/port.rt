@@ -1,5 +1,6 @@
 ghost use Rattle.std.specs.Prelude.{◌≡◌, ◌<◌, ◌≤◌, [], ◌∷◌, ◌++◌, length, OnOk, OnErr};
 ghost use Rattle.pim_io.specs.Names.{label as label_of};
+ghost use Rattle.pim_io.specs.declared.limits.TheConstants.{MAX_NAME};
 
 use pim_io::{Name, NoMemory};
 use std::alloc::Global;
@@ -41,24 +42,24 @@ impl Ports {
     }
 
     /// Appends an input with the label of this name. A call that is refused changes nothing.
-    pub fn add_input(&mut self, label: &[u8]) -> Result<(), NoMemory>
-        requires some { 0 < length label.now }
-        requires short { length label.now ≤ 4096 }
-        ensures ok { OnOk result (self.new ≡ record self.old { inputs = self.old.inputs ++ label_of label.now ∷ [] }) }
+    pub fn add_input(&mut self, name: &[u8]) -> Result<(), NoMemory>
+        requires some { 0 < length name.now }
+        requires short { length name.now ≤ MAX_NAME }
+        ensures ok { OnOk result (self.new ≡ record self.old { inputs = self.old.inputs ++ label_of name.now ∷ [] }) }
         ensures err { OnErr result (self.new ≡ self.old) }
     {
-        self.inputs.push(Name::label(self.alloc, label)?)?;
+        self.inputs.push(Name::label(self.alloc, name)?)?;
         Ok(())
     }
 
     /// Appends an output with the label of this name. A call that is refused changes nothing.
-    pub fn add_output(&mut self, label: &[u8]) -> Result<(), NoMemory>
-        requires some { 0 < length label.now }
-        requires short { length label.now ≤ 4096 }
-        ensures ok { OnOk result (self.new ≡ record self.old { outputs = self.old.outputs ++ label_of label.now ∷ [] }) }
+    pub fn add_output(&mut self, name: &[u8]) -> Result<(), NoMemory>
+        requires some { 0 < length name.now }
+        requires short { length name.now ≤ MAX_NAME }
+        ensures ok { OnOk result (self.new ≡ record self.old { outputs = self.old.outputs ++ label_of name.now ∷ [] }) }
         ensures err { OnErr result (self.new ≡ self.old) }
     {
-        self.outputs.push(Name::label(self.alloc, label)?)?;
+        self.outputs.push(Name::label(self.alloc, name)?)?;
         Ok(())
     }
 

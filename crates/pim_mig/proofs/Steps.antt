@@ -11,7 +11,8 @@ use Rattle.pim_aig.specs.declared.literal.Lit.{Lit}
 use Rattle.pim_mig.specs.Graph.{MigView}
 use Rattle.pim_mig.specs.Laws.{Answer, IsFront, MajorityLaws}
 use Rattle.pim_mig.specs.Laws.Answer.{by_new, by_node, by_rule}
-use Rattle.pim_mig.specs.Majs.{after, begun, maj_of, Making, majs_from, making, moved}
+use Rattle.pim_mig.specs.Majs.{after, begun, maj_of, Making, majs_from, making}
+use Rattle.pim_aig.specs.Moving.{moved}
 use Rattle.pim_mig.specs.Nodes.{made}
 use Rattle.pim_mig.specs.Values.{majority, mval, node_values}
 use Rattle.pim_mig.specs.declared.node.Maj.{Maj}

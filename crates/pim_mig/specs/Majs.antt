@@ -1,8 +1,7 @@
 -- The majority graph of an and-inverter graph: each AND is the majority of its operands and false.
-use Rattle.std.specs.Prelude.{ℕ, ◌+◌, ◌/◌, ◌%◌, ◌==◌, if◌then◌else◌, List, [], ◌∷◌, ◌++◌, map, slice_index_or}
-use Rattle.std.specs.List.{range_with_len}
+use Rattle.std.specs.Prelude.{ℕ, List, [], ◌∷◌, ◌++◌, map}
 use Rattle.pim_aig.specs.Graph.{AigView}
-use Rattle.pim_aig.specs.Literals.{complement, plain}
+use Rattle.pim_aig.specs.Moving.{kept, moved}
 use Rattle.pim_aig.specs.declared.graph.And.{And}
 use Rattle.pim_aig.specs.declared.literal.Lit.{Lit}
 use Rattle.pim_mig.specs.Graph.{MigView}
@@ -14,15 +13,9 @@ pub record Making : Type 0 where
   pub nodes : List Maj
   pub lits : List Lit
 
--- an old literal in the new graph
-abbrev pub moved : List Lit → Lit → Lit
-moved lits l =
-    if l.0 % 2 == 1 then complement (slice_index_or lits (l.0 / 2) (record { 0 = 0 }))
-    else slice_index_or lits (l.0 / 2) (record { 0 = 0 })
-
 -- before the first node: the constant and the inputs are as they were
 abbrev pub begun : ℕ → Making
-begun inputs = record { nodes = []; lits = map plain (range_with_len 0 (1 + inputs)) }
+begun inputs = record { nodes = []; lits = kept inputs }
 
 -- an AND as a majority
 abbrev pub maj_of : List Lit → And → Maj

@@ -1,12 +1,13 @@
-ghost use Rattle.std.specs.Prelude.{◌≡◌, ◌+◌, ◌*◌, ◌^◌, ◌<◌, ◌≤◌, [], All, Bool, List, length, map, IfOk, OnOk};
+ghost use Rattle.std.specs.Prelude.{◌≡◌, ◌<◌, ◌≤◌, [], All, Bool, List, length, map, IfOk, OnOk};
 ghost use Rattle.pim_aig.specs.Graph.{IsOfFirst, nodes};
+ghost use Rattle.pim_aig.specs.Moving.{moved};
 ghost use Rattle.pim_aig.specs.Values.{aval};
 ghost use Rattle.pim_mig.specs.Graph.{size};
-ghost use Rattle.pim_mig.specs.Majs.{begun, majs, making, moved};
+ghost use Rattle.pim_mig.specs.Majs.{majs, making};
 ghost use Rattle.pim_mig.specs.Values.{mval};
 
 use crate::Mig;
-use pim_aig::{Aig, Lit};
+use pim_aig::{Aig, Lit, moved, plain_literals};
 use pim_io::NoMemory;
 use std::alloc::Global;
 
@@ -26,19 +27,6 @@ pub fn from_aig(alloc: Global, aig: &Aig) -> Result<Mig, NoMemory>
     Ok(mig)
 }
 
-/// The literal of an old one in a new graph, where the old nodes have these.
-pub fn moved(lits: &[Lit], literal: Lit) -> Lit
-    requires { literal.0 < 2 * length lits.now }
-    ensures { result ≡ moved lits.now literal }
-{
-    let lit = lits[literal.node() as usize];
-    if literal.0 % 2 == 1 {
-        lit.complement()
-    } else {
-        lit
-    }
-}
-
 /// Makes a node of each AND, and gives the literals of all nodes of the and-inverter graph.
 fn add_nodes(alloc: Global, mig: &mut Mig, aig: &Aig) -> Result<Vec<Lit>, NoMemory>
     requires none { mig.old.nodes ≡ [] }
@@ -55,20 +43,6 @@ fn add_nodes(alloc: Global, mig: &mut Mig, aig: &Aig) -> Result<Vec<Lit>, NoMemo
         let x = moved(&lits, and.x);
         let y = moved(&lits, and.y);
         lits.push(mig.node(x, y, Lit::FALSE)?)?;
-    }
-    Ok(lits)
-}
-
-/// The plain literals of the constant and so many inputs.
-pub fn plain_literals(alloc: Global, inputs: u32) -> Result<Vec<Lit>, NoMemory>
-    requires { inputs < 2 ^ 30 }
-    ensures literals { IfOk result (λ lits. lits.items ≡ (begun inputs).lits) }
-    ensures there { IfOk result (λ lits. All (IsOfFirst (1 + inputs)) lits.items) }
-    ensures count { IfOk result (λ lits. length lits.items ≡ 1 + inputs) }
-{
-    let mut lits = Vec::new(alloc);
-    for node in 0..1 + inputs {
-        lits.push(Lit::plain(node))?;
     }
     Ok(lits)
 }

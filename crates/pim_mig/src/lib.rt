@@ -7,7 +7,7 @@ mod graph;
 mod laws;
 mod node;
 
-pub use converting::{from_aig, moved, plain_literals};
+pub use converting::from_aig;
 pub use graph::Mig;
 pub use laws::nodes_have_laws;
 pub use node::{MAX_NODES, Maj};

@@ -15,9 +15,9 @@ use Rattle.pim_net.specs.declared.fault.NetFault.TheVariants.{Twice, Undriven, C
 use Rattle.pim_net.specs.declared.parts.Equation.{Equation}
 use Rattle.pim_net.specs.declared.driver.Driver.{Driver}
 use Rattle.pim_net.specs.declared.driver.Driver.TheVariants.{Nobody, Input, Cover}
-use Rattle.pim_net.specs.declared.mark.Mark.{Mark}
-use Rattle.pim_net.specs.declared.mark.Mark.TheVariants.{New, Open, Deep}
-use Rattle.pim_net.specs.declared.mark.Frame.{Frame}
+use Rattle.pim_net.specs.declared.search.Mark.{Mark}
+use Rattle.pim_net.specs.declared.search.Mark.TheVariants.{New, Open, Deep}
+use Rattle.pim_net.specs.declared.search.Frame.{Frame}
 use Rattle.pim_net.proofs.DepthLemmas.{deepest_cons}
 use Rattle.pim_net.proofs.Trails.{step_up, head_frame}
 

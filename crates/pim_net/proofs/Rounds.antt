@@ -8,7 +8,7 @@ use Rattle.pim_net.specs.Faults.{back_to}
 use Rattle.pim_net.specs.inner.DepthFirst.{ins, sig, IsOnTrail, IsTrail, column_of, trail_sigs}
 use Rattle.pim_net.specs.declared.parts.Equation.{Equation}
 use Rattle.pim_net.specs.declared.driver.Driver.{Driver}
-use Rattle.pim_net.specs.declared.mark.Frame.{Frame}
+use Rattle.pim_net.specs.declared.search.Frame.{Frame}
 use Rattle.pim_net.proofs.Trails.{head_frame}
 
 -- an equation reads each of its columns

@@ -11,7 +11,7 @@ use Rattle.pim_net.specs.inner.DepthFirst.{ins, sig, IsWired, deep, IsOnTrail, I
 use Rattle.pim_net.specs.declared.parts.Equation.{Equation}
 use Rattle.pim_net.specs.declared.driver.Driver.{Driver}
 use Rattle.pim_net.specs.declared.driver.Driver.TheVariants.{Cover}
-use Rattle.pim_net.specs.declared.mark.Frame.{Frame}
+use Rattle.pim_net.specs.declared.search.Frame.{Frame}
 use Rattle.pim_net.proofs.DepthLemmas.{some_inj, deepest_cons, deepest_same, deepest_at, equation_from, depth_more, depth_to, depth_low}
 
 pub equation_within : (es : List Equation) (k : ℕ) → k < length es → (e : Equation) × (slice_get es k ≡ Some e)

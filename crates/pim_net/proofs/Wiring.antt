@@ -22,8 +22,8 @@ use Rattle.pim_net.specs.declared.parts.Equation.{Equation}
 use Rattle.pim_net.specs.declared.parts.OutRef.{OutRef}
 use Rattle.pim_net.specs.declared.driver.Driver.{Driver}
 use Rattle.pim_net.specs.declared.driver.Driver.TheVariants.{Cover}
-use Rattle.pim_net.specs.declared.mark.Mark.{Mark}
-use Rattle.pim_net.specs.declared.mark.Mark.TheVariants.{New, Open, Deep}
+use Rattle.pim_net.specs.declared.search.Mark.{Mark}
+use Rattle.pim_net.specs.declared.search.Mark.TheVariants.{New, Open, Deep}
 use Rattle.pim_net.specs.declared.fault.NetFault.{NetFault}
 use Rattle.pim_net.specs.declared.fault.NetFault.TheVariants.{Twice, Undriven, Cycle, NoMemory}
 use Rattle.pim_net.proofs.ByDrivers.{depth_is, undriven_is, cycle_is}

@@ -4,20 +4,21 @@ use std::alloc::{AllocError, AllocFailed};
 use std::slice;
 use thiserror::Error;
 
-/// Why a draft is no netlist.
+/// Why a draft is no netlist: drivers are judged first, then what is read, then cycles.
 #[derive(Debug, Drop, Error)]
 pub enum NetFault {
-    /// The first driver, inputs in order and then equations in order, whose signal an earlier one drives.
+    /// Two drivers of one signal: the signal of the first driver, inputs in order and then equations in order, whose signal
+    /// an earlier one drives.
     #[error("a signal has two drivers")]
     Twice(u32),
-    /// The first signal that is read, by equations and their columns in order and then by outputs in order, and that
-    /// nothing drives.
+    /// A signal that is read and that nothing drives: the first, by equations and their columns in order and then by outputs
+    /// in order.
     #[error("a signal has no driver")]
     Undriven(u32),
-    /// A cycle: one signal or more, of which each one's equation reads the next, and the last one's the first.
+    /// A cycle: one signal or more, of which the equation of each reads the next, and that of the last reads the first.
     #[error("signals form a cycle")]
     Cycle(Signals),
-    /// There was no memory.
+    /// An allocation was refused.
     #[error("no memory")]
     NoMemory,
 }

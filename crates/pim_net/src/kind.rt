@@ -1,10 +1,10 @@
 /// Which count of a netlist passes its limit.
 #[derive(Clone, Copy, Debug, PartialEq, Eq)]
 pub enum Kind {
-    /// More than 1,048,576 signals.
+    /// More than `MAX_SIGNALS` signals.
     Signals,
-    /// More than 1,048,576 outputs.
+    /// More than `MAX_OUTPUTS` outputs.
     Outputs,
-    /// A name of more than 4,096 bytes.
+    /// A name of more than `MAX_NAME` bytes.
     Name,
 }

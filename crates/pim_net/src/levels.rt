@@ -3,7 +3,7 @@ ghost use Rattle.pim_net.specs.Tables.{values};
 ghost use Rattle.pim_net.specs.inner.DepthFirst.{IsWired, IsLevelled, IsCycleFault, is_new};
 
 use crate::driver::Driver;
-use crate::mark::Mark;
+use crate::search::Mark;
 use crate::visit::visit;
 use crate::{Equation, NetFault, SignalTable};
 use std::alloc::Global;

@@ -11,15 +11,13 @@ mod kind;
 mod levels;
 mod limits;
 mod lists;
-mod mark;
 mod names;
 mod net;
 mod parts;
+mod search;
 mod signal_table;
 mod signals;
 mod table;
-#[cfg(test)]
-mod tests;
 mod topo;
 mod undriven;
 mod visit;

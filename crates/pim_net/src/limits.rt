@@ -1,7 +1,7 @@
-/// The most signals that a netlist has: their numbers are below this.
+/// The most signals that a netlist has. Their numbers are below this, 2^20.
 pub const MAX_SIGNALS: u32 = 1_048_576;
 
-/// The most outputs that a netlist has.
+/// The most outputs that a netlist has, 2^20.
 pub const MAX_OUTPUTS: u32 = 1_048_576;
 
 /// A draft has fewer equations than this, 2^28.

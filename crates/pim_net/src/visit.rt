@@ -2,10 +2,10 @@ ghost use Rattle.std.specs.Prelude.{◌≡◌, ◌<◌, ◌≤◌, [], ◌∷◌
 ghost use Rattle.pim_net.specs.Faults.{back_to};
 ghost use Rattle.pim_net.specs.Tables.{values};
 ghost use Rattle.pim_net.specs.inner.DepthFirst.{ins, sig, mark, EachKnown, IsWired, IsStep, IsMarked, IsVisited, IsRound, trail_sigs};
-ghost use Rattle.pim_net.specs.declared.mark.Mark.TheVariants.{New};
+ghost use Rattle.pim_net.specs.declared.search.Mark.TheVariants.{New};
 
 use crate::driver::Driver;
-use crate::mark::{Frame, Mark, Step};
+use crate::search::{Frame, Mark, Step};
 use crate::{Equation, NetFault, SignalTable, Signals};
 use pim_io::NoMemory;
 use std::alloc::Global;

@@ -12,8 +12,6 @@ mod plan;
 mod reach;
 mod singles;
 mod slots;
-#[cfg(test)]
-mod tests;
 
 pub use lowering::{Width, lower};
 pub use network::{Gate, MAX_GATES, NorNet, Pin};

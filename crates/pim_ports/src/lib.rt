@@ -2,7 +2,5 @@
 #![tactic(auto)]
 
 mod ports;
-#[cfg(test)]
-mod tests;
 
 pub use ports::ports_of;

@@ -7,7 +7,8 @@ use Rattle.pim_aig.specs.declared.literal.Lit.{Lit}
 use Rattle.pim_mig.specs.Graph.{IsMig, MigView}
 use Rattle.pim_mig.specs.Laws.{Answer, IsFront, IsOperand, NodeLaws}
 use Rattle.pim_mig.specs.Laws.Answer.{by_new, by_node, by_rule}
-use Rattle.pim_mig.specs.Majs.{begun, Making, moved}
+use Rattle.pim_mig.specs.Majs.{begun, Making}
+use Rattle.pim_aig.specs.Moving.{moved}
 use Rattle.pim_mig.specs.Needs.{is_needed, named, needed_count, reads, reads_from, times}
 use Rattle.pim_mig.specs.Nodes.{made, same_operands}
 use Rattle.pim_mig.specs.declared.node.Maj.{Maj}

@@ -8,7 +8,8 @@ use Rattle.pim_aig.specs.declared.literal.Lit.{Lit}
 use Rattle.pim_mig.specs.Graph.{IsApart, IsMig, MigView}
 use Rattle.pim_mig.specs.Laws.{Answer, NodeLaws}
 use Rattle.pim_mig.specs.Laws.Answer.{by_new, by_node, by_rule}
-use Rattle.pim_mig.specs.Majs.{begun, Making, moved}
+use Rattle.pim_mig.specs.Majs.{begun, Making}
+use Rattle.pim_aig.specs.Moving.{moved}
 use Rattle.pim_mig.specs.Needs.{is_needed}
 use Rattle.pim_mig.specs.Nodes.{made, same_operands, simplified}
 use Rattle.pim_mig.specs.declared.node.Maj.{Maj}

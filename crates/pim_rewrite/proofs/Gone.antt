@@ -6,7 +6,8 @@ use Rattle.pim_aig.specs.Literals.{node}
 use Rattle.pim_aig.specs.declared.literal.Lit.{Lit}
 use Rattle.pim_mig.specs.Graph.{IsApart, IsMig, MigView}
 use Rattle.pim_mig.specs.Laws.{IsFront, IsOperand, NodeLaws}
-use Rattle.pim_mig.specs.Majs.{begun, Making, moved}
+use Rattle.pim_mig.specs.Majs.{begun, Making}
+use Rattle.pim_aig.specs.Moving.{moved}
 use Rattle.pim_mig.specs.Needs.{is_needed, named, needed_count, reads, times}
 use Rattle.pim_mig.specs.Nodes.{made}
 use Rattle.pim_mig.specs.declared.node.Maj.{Maj}

@@ -4,7 +4,7 @@ use Rattle.std.proofs.lemmas.Bool.Decides.{nat_tests, eqb_tells}
 use Rattle.pim_aig.specs.Literals.{complement, node, plain}
 use Rattle.pim_aig.specs.declared.literal.Lit.{Lit}
 use Rattle.pim_mig.specs.Graph.{IsApart, MigView}
-use Rattle.pim_mig.specs.Majs.{moved}
+use Rattle.pim_aig.specs.Moving.{moved}
 use Rattle.pim_mig.specs.Needs.{is_needed}
 use Rattle.pim_mig.specs.Nodes.{greatest, least, middle, same_operands}
 use Rattle.pim_mig.specs.declared.node.Maj.{Maj}

@@ -6,7 +6,8 @@ use Rattle.pim_aig.specs.Literals.{node}
 use Rattle.pim_aig.specs.declared.literal.Lit.{Lit}
 use Rattle.pim_mig.specs.Graph.{IsMig, MigView}
 use Rattle.pim_mig.specs.Laws.{NodeLaws}
-use Rattle.pim_mig.specs.Majs.{begun, moved}
+use Rattle.pim_mig.specs.Majs.{begun}
+use Rattle.pim_aig.specs.Moving.{moved}
 use Rattle.pim_mig.specs.Needs.{all_reads, is_needed, is_single, named, reads, reads_from, times}
 use Rattle.pim_mig.specs.declared.node.Maj.{Maj}
 use Rattle.pim_rewrite.specs.Cases.{case_of, first_of_two, has, has_case, has_case_from, is_spreadable, match_nodes, match_pair, node_at}

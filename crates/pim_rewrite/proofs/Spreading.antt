@@ -5,7 +5,8 @@ use Rattle.pim_aig.specs.Literals.{node, plain}
 use Rattle.pim_aig.specs.declared.literal.Lit.{Lit}
 use Rattle.pim_mig.specs.Graph.{IsApart, MigView}
 use Rattle.pim_mig.specs.Laws.{IsFront, IsOperand}
-use Rattle.pim_mig.specs.Majs.{Making, moved}
+use Rattle.pim_mig.specs.Majs.{Making}
+use Rattle.pim_aig.specs.Moving.{moved}
 use Rattle.pim_mig.specs.Nodes.{made}
 use Rattle.pim_mig.specs.Values.{majority, mval}
 use Rattle.pim_mig.specs.declared.node.Maj.{Maj}

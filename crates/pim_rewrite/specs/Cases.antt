@@ -3,7 +3,8 @@ use Rattle.std.specs.Prelude.{ℕ, suc, ◌+◌, ◌-◌, ◌%◌, ◌==◌, ◌
 use Rattle.pim_aig.specs.Literals.{node}
 use Rattle.pim_aig.specs.declared.literal.Lit.{Lit}
 use Rattle.pim_mig.specs.Graph.{MigView}
-use Rattle.pim_mig.specs.Majs.{Making, moved}
+use Rattle.pim_mig.specs.Majs.{Making}
+use Rattle.pim_aig.specs.Moving.{moved}
 use Rattle.pim_mig.specs.Needs.{is_needed, is_single}
 use Rattle.pim_mig.specs.Nodes.{made, Made}
 use Rattle.pim_mig.specs.declared.node.Maj.{Maj}

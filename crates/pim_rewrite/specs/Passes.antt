@@ -3,7 +3,8 @@ use Rattle.std.specs.Prelude.{ℕ, suc, ◌+◌, ◌%◌, ◌==◌, ◌&&◌, Bo
 use Rattle.pim_aig.specs.Literals.{complement}
 use Rattle.pim_aig.specs.declared.literal.Lit.{Lit}
 use Rattle.pim_mig.specs.Graph.{MigView}
-use Rattle.pim_mig.specs.Majs.{begun, Making, moved}
+use Rattle.pim_mig.specs.Majs.{begun, Making}
+use Rattle.pim_aig.specs.Moving.{moved}
 use Rattle.pim_mig.specs.Needs.{is_needed}
 use Rattle.pim_mig.specs.Nodes.{made, Made}
 use Rattle.pim_mig.specs.declared.node.Maj.{Maj}

@@ -2,7 +2,7 @@ ghost use Rattle.std.specs.Prelude.{◌≡◌, ◌+◌, ◌*◌, ◌<◌, ◌≤
 ghost use Rattle.pim_aig.specs.Graph.{IsOfFirst};
 ghost use Rattle.pim_aig.specs.declared.graph.TheConstants.{MAX_OUTPUTS};
 ghost use Rattle.pim_mig.specs.Graph.{size};
-ghost use Rattle.pim_mig.specs.Majs.{moved};
+ghost use Rattle.pim_aig.specs.Moving.{moved};
 ghost use Rattle.pim_mig.specs.Needs.{is_needed, needed_count};
 ghost use Rattle.pim_mig.specs.declared.node.TheConstants.{MAX_NODES};
 ghost use Rattle.pim_rewrite.specs.Cases.{case_of, spread_case};
@@ -14,9 +14,9 @@ ghost use Rattle.pim_rewrite.specs.declared.rewriting.TheConstants.{MAX_REWRITTE
 
 use crate::cases::{Case, case_of};
 use crate::reading::Reading;
-use pim_aig::Lit;
+use pim_aig::{Lit, moved, plain_literals};
 use pim_io::NoMemory;
-use pim_mig::{Maj, Mig, moved, nodes_have_laws, plain_literals};
+use pim_mig::{Maj, Mig, nodes_have_laws};
 use std::alloc::Global;
 
 /// What a pass makes of the needed nodes.

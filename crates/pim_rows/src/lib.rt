@@ -16,8 +16,6 @@ mod debug;
 #[cfg(test)]
 mod imply;
 #[cfg(test)]
-mod memory;
-#[cfg(test)]
 mod outside;
 #[cfg(test)]
 mod programs;

@@ -1,7 +1,7 @@
-//! Sources and sinks that fail.
-use crate::case::{AND_NETLIST, AND_PROGRAM, Ending, FIVE, call, call_from, call_over, stops};
-use pim_io::{MemSink, MemSource, SliceSource};
-use pim_top::Status;
+//! Sources and sinks that fail, and those of std.
+use crate::case::{AND_NETLIST, AND_PROGRAM, Ending, FIVE, call_from, call_over, words_of};
+use pim_io::{MemSink, MemSource, ReadSource, SliceSource, WriteSink};
+use pim_top::{Status, pim};
 use std::alloc::Global;
 use std::test::Fail;
 
@@ -71,11 +71,25 @@ fn failing_notes_change_nothing(rt: HostRuntime) -> Result<(), Fail> {
     Ok(())
 }
 
+/// The readers and writers of std are sources and sinks.
 #[test]
-fn one_byte_too_many(rt: HostRuntime) -> Result<(), Fail> {
+fn std_gives_sources_and_sinks(rt: HostRuntime) -> Result<(), Fail> {
     let alloc = rt.alloc();
-    let hashes = vec![in alloc; b'#'; 67_108_865]?;
-    let ending = call(alloc, FIVE, &hashes, 1_048_576)?;
-    let text = "too large: bytes";
-    stops(&rt, alloc, &ending, Status::TooLarge, b"", text)
+    let words = words_of(alloc, FIVE)?;
+    let mut program = ReadSource::new(b"".as_slice());
+    let mut input = ReadSource::new(AND_NETLIST);
+    let mut output = Vec::new(alloc);
+    let mut notes = Vec::new(alloc);
+    let status = pim(
+        alloc,
+        &words,
+        &mut program,
+        &mut input,
+        &mut WriteSink::new(&mut output),
+        &mut WriteSink::new(&mut notes),
+    );
+    assert_eq!(rt; status, Status::Done);
+    assert_eq!(rt; output.as_slice(), AND_PROGRAM);
+    assert_eq!(rt; notes.as_slice(), b"".as_slice());
+    Ok(())
 }

@@ -4,10 +4,10 @@ use thiserror::Error;
 /// Why a network was not scheduled.
 #[derive(Clone, Copy, Debug, PartialEq, Eq, Error)]
 pub enum Refusal {
-    /// The budget is below the cells that the schedule needs.
+    /// The budget is below the cells that the network needs, which are these.
     #[error("too few cells")]
     TooFewCells { needed: u32 },
-    /// There was no memory.
+    /// An allocation was refused.
     #[error("no memory")]
     NoMemory,
 }

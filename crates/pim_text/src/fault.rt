@@ -16,7 +16,7 @@ pub enum TextFault {
     /// The bytes end before the line `end`.
     #[error("the bytes end too early")]
     Truncated,
-    /// There was no memory.
+    /// An allocation was refused.
     #[error("no memory")]
     NoMemory,
 }

@@ -17,13 +17,13 @@ mod reading;
 mod section;
 mod text;
 
-pub use cells::{CellWords, PlainNumbers};
+pub use cells::CellWords;
 pub use draft::Draft;
 pub use fault::TextFault;
-pub use fields::{Fields, WordWalk, behind, is_text, plain_number};
-pub use instrs::{instr_from, line_instr};
+pub use fields::{WordWalk, is_text, plain_number};
+pub use instrs::instr_from;
 pub use laws::line_laws;
-pub use lines::{PortLine, counted, port, target};
+pub use lines::{PortLine, counted, port};
 pub use printing::{push_instr, push_ports, target_name};
 pub use reading::{read_draft, text_laws};
 pub use text::Text;

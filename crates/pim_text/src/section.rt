@@ -1,4 +1,4 @@
-use pim_isa::Target as Machine;
+use pim_isa::Target;
 
 /// Which lines may come next in the text of a program.
 #[derive(Clone, Copy, Debug, PartialEq, Eq)]
@@ -8,7 +8,7 @@ pub enum Section {
     /// The target.
     Target,
     /// The number of cells, of a program for this target.
-    Cells(Machine),
+    Cells(Target),
     /// An input, an output, or the number of cycles.
     Inputs,
     /// An output, or the number of cycles.

@@ -5,7 +5,8 @@ use Rattle.pim_aig.specs.Graph.{AigView}
 use Rattle.pim_aig.specs.Literals.{plain}
 use Rattle.pim_aig.specs.declared.graph.And.{And}
 use Rattle.pim_aig.specs.declared.literal.Lit.{Lit}
-use Rattle.pim_tidy.specs.Tidied.{after, folded, joined, joined_by, Joined, moved, moved_and, place_of, same_operands, tidied_from, Tidying}
+use Rattle.pim_tidy.specs.Tidied.{after, folded, joined, joined_by, Joined, moved_and, place_of, same_operands, tidied_from, Tidying}
+use Rattle.pim_aig.specs.Moving.{moved}
 
 -- ---- places
 pub place_within : (ands : List And) (a : And) → place_of ands a ≤ length ands

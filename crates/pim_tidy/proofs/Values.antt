@@ -9,7 +9,8 @@ use Rattle.pim_aig.specs.Literals.{complement, plain}
 use Rattle.pim_aig.specs.Values.{aval, node_values}
 use Rattle.pim_aig.specs.declared.graph.And.{And}
 use Rattle.pim_aig.specs.declared.literal.Lit.{Lit}
-use Rattle.pim_tidy.specs.Tidied.{after, begun, folded, joined, moved, moved_and, same_operands, tidied_from, Tidying}
+use Rattle.pim_tidy.specs.Tidied.{after, begun, folded, joined, moved_and, same_operands, tidied_from, Tidying}
+use Rattle.pim_aig.specs.Moving.{moved}
 use Rattle.pim_tidy.proofs.Steps.{IsFront, Joins, front_both, get_or_last, joins, rest_front}
 use Rattle.pim_tidy.proofs.Steps.Joins.{by_folding, by_node, by_new}
 

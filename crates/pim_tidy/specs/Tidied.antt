@@ -1,8 +1,8 @@
 -- The tidied graph: constants are folded, and nodes that read the same are one.
-use Rattle.std.specs.Prelude.{ℕ, suc, ◌+◌, ◌/◌, ◌%◌, ◌==◌, ◌&&◌, ◌||◌, Bool, if◌then◌else◌, List, [], ◌∷◌, ◌++◌, length, map, Option, Some, None, slice_index_or}
-use Rattle.std.specs.List.{range_with_len}
+use Rattle.std.specs.Prelude.{ℕ, suc, ◌+◌, ◌==◌, ◌&&◌, ◌||◌, Bool, if◌then◌else◌, List, [], ◌∷◌, ◌++◌, length, map, Option, Some, None}
 use Rattle.pim_aig.specs.Graph.{AigView}
 use Rattle.pim_aig.specs.Literals.{complement, plain}
+use Rattle.pim_aig.specs.Moving.{kept, moved}
 use Rattle.pim_aig.specs.declared.graph.And.{And}
 use Rattle.pim_aig.specs.declared.literal.Lit.{Lit}
 
@@ -48,12 +48,6 @@ pub record Tidying : Type 0 where
   pub ands : List And
   pub lits : List Lit
 
--- an old literal in the new graph
-abbrev pub moved : List Lit → Lit → Lit
-moved lits l =
-    if l.0 % 2 == 1 then complement (slice_index_or lits (l.0 / 2) (record { 0 = 0 }))
-    else slice_index_or lits (l.0 / 2) (record { 0 = 0 })
-
 -- the same node with its operands in the new graph
 abbrev pub moved_and : List Lit → And → And
 moved_and lits a = record { x = moved lits a.x; y = moved lits a.y }
@@ -71,7 +65,7 @@ tidied_from inputs st (a ∷ rest) = tidied_from inputs (after inputs st a) rest
 
 -- before the first one: the constant and the inputs are as they were
 abbrev pub begun : ℕ → Tidying
-begun inputs = record { ands = []; lits = map plain (range_with_len 0 (1 + inputs)) }
+begun inputs = record { ands = []; lits = kept inputs }
 
 -- after all nodes of a graph
 abbrev pub tidying : AigView → Tidying

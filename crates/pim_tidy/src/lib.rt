@@ -2,8 +2,6 @@
 #![tactic(auto)]
 
 mod pair;
-#[cfg(test)]
-mod tests;
 mod tidying;
 
 pub use tidying::tidy;

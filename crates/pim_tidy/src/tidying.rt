@@ -1,14 +1,15 @@
-ghost use Rattle.std.specs.Prelude.{◌≡◌, ◌+◌, ◌*◌, ◌^◌, ◌<◌, ◌≤◌, ◌∷◌, ◌++◌, [], None, All, Bool, List, length, map, IfOk, OnOk};
+ghost use Rattle.std.specs.Prelude.{◌≡◌, ◌+◌, ◌*◌, ◌<◌, ◌≤◌, ◌∷◌, ◌++◌, [], None, All, Bool, List, length, map, IfOk, OnOk};
 ghost use Rattle.pim_aig.specs.Graph.{IsOfFirst, nodes};
+ghost use Rattle.pim_aig.specs.Moving.{moved};
 ghost use Rattle.pim_aig.specs.Values.{aval};
 ghost use Rattle.pim_aig.specs.declared.graph.TheConstants.{MAX_ANDS};
-ghost use Rattle.pim_tidy.specs.Tidied.{begun, folded, joined, joined_by, moved, place_of, tidied, tidying};
+ghost use Rattle.pim_tidy.specs.Tidied.{folded, joined, joined_by, place_of, tidied, tidying};
 ghost use Rattle.pim_tidy.specs.Tidy.{IsTidy};
 ghost use Rattle.pim_tidy.specs.inner.Pairs.{pair_of};
 
 use crate::pair::Pair;
 use indexmap::IndexSet;
-use pim_aig::{Aig, And, Lit};
+use pim_aig::{Aig, And, Lit, moved, plain_literals};
 use pim_io::NoMemory;
 use std::alloc::Global;
 
@@ -27,19 +28,6 @@ pub fn tidy(alloc: Global, aig: &Aig) -> Result<Aig, NoMemory>
     aig.has_values();
     tidy.has_values();
     Ok(tidy)
-}
-
-/// The literal of an old one in the new graph, where the old nodes have these.
-fn moved(lits: &[Lit], literal: Lit) -> Lit
-    requires { literal.0 < 2 * length lits.now }
-    ensures { result ≡ moved lits.now literal }
-{
-    let lit = lits[literal.node() as usize];
-    if literal.0 % 2 == 1 {
-        lit.complement()
-    } else {
-        lit
-    }
 }
 
 /// The literal that the AND of two literals is without a node, if there is one.
@@ -139,26 +127,12 @@ fn add_nodes(alloc: Global, tidy: &mut Aig, aig: &Aig) -> Result<Vec<Lit>, NoMem
     ensures count { IfOk result (λ lits. length lits.items ≡ nodes aig.now) }
 {
     let mut pairs = IndexSet::new(alloc);
-    let mut lits = begun(alloc, tidy.inputs())?;
+    let mut lits = plain_literals(alloc, tidy.inputs())?;
     let ands = aig.ands();
     for and in ands {
         let x = moved(&lits, and.x);
         let y = moved(&lits, and.y);
         lits.push(join(tidy, &mut pairs, x, y)?)?;
-    }
-    Ok(lits)
-}
-
-/// The plain literals of the constant and the inputs.
-fn begun(alloc: Global, inputs: u32) -> Result<Vec<Lit>, NoMemory>
-    requires { inputs < 2 ^ 30 }
-    ensures literals { IfOk result (λ lits. lits.items ≡ (begun inputs).lits) }
-    ensures there { IfOk result (λ lits. All (IsOfFirst (1 + inputs)) lits.items) }
-    ensures count { IfOk result (λ lits. length lits.items ≡ 1 + inputs) }
-{
-    let mut lits = Vec::new(alloc);
-    for node in 0..1 + inputs {
-        lits.push(Lit::plain(node))?;
     }
     Ok(lits)
 }

@@ -12,11 +12,11 @@ use Rattle.pim_net.specs.declared.fault.NetFault.TheVariants.{Twice, Undriven, C
 use Rattle.pim_net.specs.declared.parts.Equation.{Equation}
 use Rattle.pim_net.specs.declared.driver.Driver.{Driver}
 use Rattle.pim_net.specs.declared.driver.Driver.TheVariants.{Nobody, Input, Cover}
-use Rattle.pim_net.specs.declared.mark.Mark.{Mark}
-use Rattle.pim_net.specs.declared.mark.Mark.TheVariants.{New, Open, Deep}
-use Rattle.pim_net.specs.declared.mark.Frame.{Frame}
-use Rattle.pim_net.specs.declared.mark.Step.{Step}
-use Rattle.pim_net.specs.declared.mark.Step.TheVariants.{Done, Past, Into, Round}
+use Rattle.pim_net.specs.declared.search.Mark.{Mark}
+use Rattle.pim_net.specs.declared.search.Mark.TheVariants.{New, Open, Deep}
+use Rattle.pim_net.specs.declared.search.Frame.{Frame}
+use Rattle.pim_net.specs.declared.search.Step.{Step}
+use Rattle.pim_net.specs.declared.search.Step.TheVariants.{Done, Past, Into, Round}
 
 -- the columns of equation k
 abbrev pub ins : List Equation → ℕ → List ℕ

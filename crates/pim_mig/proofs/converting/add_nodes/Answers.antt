@@ -5,7 +5,8 @@ use Rattle.pim_aig.specs.Graph.{IsOfFirst}
 use Rattle.pim_aig.specs.declared.graph.And.{And}
 use Rattle.pim_aig.specs.declared.literal.Lit.{Lit}
 use Rattle.pim_mig.specs.Graph.{MigView, size}
-use Rattle.pim_mig.specs.Majs.{making, moved}
+use Rattle.pim_mig.specs.Majs.{making}
+use Rattle.pim_aig.specs.Moving.{moved}
 use Rattle.pim_mig.proofs.Steps.{graph_is, step_whole}
 use Rattle.pim_mig.proofs.converting.add_nodes.Goals as goal
 

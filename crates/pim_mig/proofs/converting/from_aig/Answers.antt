@@ -1,7 +1,7 @@
 use Rattle.std.proofs.Common.{List, map, ◌∙◌, ap}
 use Rattle.pim_aig.specs.declared.literal.Lit.{Lit}
 use Rattle.pim_mig.specs.Graph.{MigView}
-use Rattle.pim_mig.specs.Majs.{moved}
+use Rattle.pim_aig.specs.Moving.{moved}
 use Rattle.pim_mig.proofs.Steps.{majs_values}
 use Rattle.pim_mig.proofs.converting.from_aig.Goals as goal
 

@@ -8,7 +8,7 @@ use Rattle.pim_net.specs.declared.driver.Driver.{Driver}
 use Rattle.pim_net.specs.declared.fault.NetFault.{NetFault}
 use Rattle.pim_net.specs.declared.fault.NetFault.TheVariants.{Twice, Undriven, Cycle, NoMemory}
 use Rattle.pim_net.specs.declared.parts.Equation.{Equation}
-use Rattle.pim_net.specs.declared.mark.Mark.{Mark}
+use Rattle.pim_net.specs.declared.search.Mark.{Mark}
 use Rattle.pim_net.proofs.Wiring.{wired, well_formed, sound, lacking, refused, by_depth, ready}
 use Rattle.pim_net.specs.Tables.{values}
 use Rattle.pim_net.proofs.judge.judge.Goals as goal

@@ -3,8 +3,8 @@ use Rattle.std.proofs.lemmas.Result.{err_from_is_err_and}
 use Rattle.std.proofs.lemmas.Bool.{cases_lt}
 use Rattle.pim_net.specs.inner.DepthFirst.{mark, is_new, IsMarked}
 use Rattle.std.proofs.lemmas.List.{get_or_read}
-use Rattle.pim_net.specs.declared.mark.Mark.{Mark}
-use Rattle.pim_net.specs.declared.mark.Mark.TheVariants.{New}
+use Rattle.pim_net.specs.declared.search.Mark.{Mark}
+use Rattle.pim_net.specs.declared.search.Mark.TheVariants.{New}
 use Rattle.pim_net.proofs.Marking.{marks_new, deep_of, cycle_from}
 use Rattle.pim_net.specs.Tables.{values}
 use Rattle.pim_net.proofs.levels.levels.Goals as goal

@@ -3,8 +3,8 @@ use Rattle.std.specs.Prelude.{reverse, count_by}
 use Rattle.std.proofs.lemmas.List.{reverse-append, nil_from_length, length-reverse, length_push}
 use Rattle.pim_net.specs.inner.DepthFirst.{ins, mark, is_new, column_of, marked_depth, IsTrail, IsMarked}
 use Rattle.pim_net.specs.Cycles.{IsCycle}
-use Rattle.pim_net.specs.declared.mark.Mark.TheVariants.{New, Open, Deep}
-use Rattle.pim_net.specs.declared.mark.Frame.{Frame}
+use Rattle.pim_net.specs.declared.search.Mark.TheVariants.{New, Open, Deep}
+use Rattle.pim_net.specs.declared.search.Frame.{Frame}
 use Rattle.pim_net.proofs.Rounds.{round_is_cycle}
 use Rattle.pim_net.proofs.Trails.{known_all, walk_round}
 use Rattle.pim_net.proofs.Marking.{marks_into, trail_into, marks_done, marked_is, trail_past, marks_past, stays_old, fewer_new, smaller_into}

@@ -1,5 +1,5 @@
 use Rattle.std.proofs.Common.{◌≡◌, map, take}
-use Rattle.pim_mig.specs.Majs.{moved}
+use Rattle.pim_aig.specs.Moving.{moved}
 use Rattle.pim_rewrite.proofs.passes.add_outputs.Given as goal
 
 -- the outputs so far are the first ones, moved

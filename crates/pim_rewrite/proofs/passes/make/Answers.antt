@@ -1,7 +1,7 @@
 use Rattle.std.proofs.Common.{List, map, ◌∙◌, ap}
 use Rattle.pim_aig.specs.declared.literal.Lit.{Lit}
 use Rattle.pim_mig.specs.Graph.{MigView}
-use Rattle.pim_mig.specs.Majs.{moved}
+use Rattle.pim_aig.specs.Moving.{moved}
 use Rattle.pim_rewrite.specs.inner.Steps.{step_of}
 use Rattle.pim_rewrite.proofs.Loops.{step_grows, step_values}
 use Rattle.pim_rewrite.proofs.Values.{AreTwo, passed_values}

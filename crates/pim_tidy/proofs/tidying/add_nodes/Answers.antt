@@ -4,7 +4,8 @@ use Rattle.std.proofs.lemmas.List.Elements.{All-push}
 use Rattle.pim_aig.specs.Graph.{AigView, IsOfFirst, nodes}
 use Rattle.pim_aig.specs.declared.graph.And.{And}
 use Rattle.pim_aig.specs.declared.literal.Lit.{Lit}
-use Rattle.pim_tidy.specs.Tidied.{moved, tidying}
+use Rattle.pim_tidy.specs.Tidied.{tidying}
+use Rattle.pim_aig.specs.Moving.{moved}
 use Rattle.pim_tidy.proofs.Steps.{graph_is, step_whole}
 use Rattle.pim_tidy.proofs.tidying.add_nodes.Goals as goal
 

@@ -2,7 +2,8 @@ use Rattle.std.proofs.Common.{◌≡◌, List, length, map, refl, sym, ◌∙◌
 use Rattle.pim_aig.specs.Graph.{AigView}
 use Rattle.pim_aig.specs.declared.graph.And.{And}
 use Rattle.pim_aig.specs.declared.literal.Lit.{Lit}
-use Rattle.pim_tidy.specs.Tidied.{begun, moved, tidying}
+use Rattle.pim_tidy.specs.Tidied.{begun, tidying}
+use Rattle.pim_aig.specs.Moving.{moved}
 use Rattle.pim_tidy.specs.Tidy.{AreTidy}
 use Rattle.pim_tidy.proofs.Steps.{rest_few}
 use Rattle.pim_tidy.proofs.Tidies.{all_tidy}

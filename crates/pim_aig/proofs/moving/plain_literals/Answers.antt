@@ -5,7 +5,7 @@ use Rattle.std.proofs.lemmas.List.FromFn.{map-range_with_len_more}
 use Rattle.pim_aig.specs.Graph.{IsOfFirst}
 use Rattle.pim_aig.specs.Literals.{plain}
 use Rattle.pim_aig.specs.declared.literal.Lit.{Lit}
-use Rattle.pim_tidy.proofs.tidying.begun.Goals as goal
+use Rattle.pim_aig.proofs.moving.plain_literals.Goals as goal
 
 pub loop-node-preserved : goal.loop-node-preserved
 loop-node-preserved c =

@@ -1,7 +1,7 @@
 use Rattle.std.proofs.Common.{◌≡◌, ◌∷◌, rules, arith}
 use Rattle.std.specs.Fmt.{decimal}
 use Rattle.std.proofs.lemmas.Fmt.{length-decimal-le}
-use Rattle.pim_adder.proofs.netlist.name.Goals as goal
+use Rattle.pim_net.proofs.names.numbered.Goals as goal
 
 pub returns-clause-short : goal.returns-clause-short
 returns-clause-short c =
