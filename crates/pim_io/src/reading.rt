@@ -5,14 +5,16 @@ use crate::Source;
 use std::alloc::Global;
 use thiserror::Error;
 
-/// Why bytes were not read to their end: the source failed, and counted it; more bytes came than the limit allows; or there
-/// was no memory for them.
+/// Why bytes were not read to their end.
 #[derive(Clone, Copy, Debug, PartialEq, Eq, Error)]
 pub enum ReadAllFault {
+    /// A read failed, and the source counted it.
     #[error("the source could not be read")]
     Fault,
+    /// One byte more came than the limit allows.
     #[error("the source has too many bytes")]
     TooLong,
+    /// An allocation was refused.
     #[error("no memory")]
     NoMemory,
 }

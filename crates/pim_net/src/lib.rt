@@ -27,7 +27,7 @@ pub use draft::Draft;
 pub use fault::NetFault;
 pub use kind::Kind;
 pub use limits::{MAX_COLUMNS, MAX_EQUATIONS, MAX_OUTPUTS, MAX_ROWS, MAX_SIGNALS};
-pub use names::Names;
+pub use names::{Names, numbered};
 pub use net::Net;
 pub use parts::{Equation, OutRef};
 pub use signal_table::SignalTable;
