@@ -46,9 +46,11 @@ FileRefused (commands.Implyrun fill) file j = implyrun_of fill file ≡ Err j
 FileRefused (commands.Share cells) file j = parts_of file ≡ Err j
 FileRefused command file j = (input : List ℕ) → Answers command file input (Err j)
 
--- the program file of a command that reads the input too is not refused by itself
+-- the program file is not refused by itself; a command that reads none says nothing of it
 abbrev pub FilePasses : Command → List ℕ → Type 0
 FilePasses (commands.Run fill) file = (runner : Runner) × (run_of fill file ≡ Ok runner)
+FilePasses commands.List file = (program : ProgramView) × (program_of file ≡ Ok program)
+FilePasses (commands.Explain tree) file = (text : List ℕ) × (explain_of tree file ≡ Ok text)
 FilePasses commands.Prove file = (program : ProgramView) × (program_of file ≡ Ok program)
 FilePasses (commands.Debug fill) file = (program : ProgramView) × (program_of file ≡ Ok program)
 FilePasses (commands.Implyrun fill) file = (runner : Runner) × (implyrun_of fill file ≡ Ok runner)

@@ -38,11 +38,11 @@ pub(crate) trait WholeText {
         ensures refused { IfErr result (λ j. IsWanting j ⊎ FileRefused (command self.now) file.now j) };
 
     /// The text for the bytes of the input, or why they are refused.
-    fn text(&self, alloc: Global, opened: &Self::Opened, input: &[u8]) -> Result<Vec<u8>, Judgement>
+    fn text(&self, alloc: Global, opened: Self::Opened, input: &[u8]) -> Result<Vec<u8>, Judgement>
         requires { IsWithin (reads (command self.now) Origin.Input) input.now }
-        ensures text { IfOk result (λ text. (file : List ℕ) → opens self.now file opened.now
+        ensures text { IfOk result (λ text. (file : List ℕ) → opens self.now file opened
             → Answers (command self.now) file input.now (Ok text.items)) }
-        ensures refused { IfErr result (λ j. (file : List ℕ) → opens self.now file opened.now
+        ensures refused { IfErr result (λ j. (file : List ℕ) → opens self.now file opened
             → IsWanting j ⊎ Answers (command self.now) file input.now (Err j)) };
 
     /// A law, which computes nothing: what the command takes is not refused.
@@ -74,7 +74,7 @@ pub(crate) fn write_text<C: WholeText, P: Source, S: Source, K: Sink>(
     )?;
     let opened = command.open(alloc, file.as_slice())?;
     let bytes = bytes_of(alloc, input, Origin::Input, command.reads(Origin::Input))?;
-    let text = command.text(alloc, &opened, bytes.as_slice())?;
+    let text = command.text(alloc, opened, bytes.as_slice())?;
     write_all(output, text.as_slice())?;
     Ok(())
 }

@@ -35,7 +35,7 @@ impl WholeText for Asm {
         Ok(())
     }
 
-    fn text(&self, alloc: Global, _opened: &(), input: &[u8]) -> Result<Vec<u8>, Judgement> {
+    fn text(&self, alloc: Global, _opened: (), input: &[u8]) -> Result<Vec<u8>, Judgement> {
         let program = assembled(alloc, input)?;
         Ok(print(alloc, &program)?)
     }

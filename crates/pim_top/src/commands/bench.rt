@@ -33,7 +33,7 @@ impl WholeText for Bench {
         Ok(())
     }
 
-    fn text(&self, alloc: Global, _opened: &(), _input: &[u8]) -> Result<Vec<u8>, Judgement> {
+    fn text(&self, alloc: Global, _opened: (), _input: &[u8]) -> Result<Vec<u8>, Judgement> {
         match measured(alloc, self.bits) {
             Ok(text) => Ok(text),
             Err(_) => Err(Judgement::NoMemory),

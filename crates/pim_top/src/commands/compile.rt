@@ -43,7 +43,7 @@ impl WholeText for Compile {
         Ok(())
     }
 
-    fn text(&self, alloc: Global, _opened: &(), input: &[u8]) -> Result<Vec<u8>, Judgement> {
+    fn text(&self, alloc: Global, _opened: (), input: &[u8]) -> Result<Vec<u8>, Judgement> {
         text_of(alloc, *self, input)
     }
 

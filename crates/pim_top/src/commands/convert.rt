@@ -37,7 +37,7 @@ impl WholeText for Convert {
         Ok(())
     }
 
-    fn text(&self, alloc: Global, _opened: &(), input: &[u8]) -> Result<Vec<u8>, Judgement> {
+    fn text(&self, alloc: Global, _opened: (), input: &[u8]) -> Result<Vec<u8>, Judgement> {
         let program = program_of(alloc, input)?;
         Ok(in_form(alloc, self.form, &program)?)
     }

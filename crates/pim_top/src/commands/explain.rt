@@ -1,9 +1,8 @@
 //! `explain`: a program becomes an account of when each of its cells is used.
 ghost use Rattle.std.specs.Prelude.{◌≡◌, ◌⊎◌, Ok, Err, IfErr, IfOk};
 ghost use Rattle.pim_words.specs.declared.command.Command.TheVariants as commands;
-ghost use Rattle.pim_top.specs.Programs.{program_of};
 ghost use Rattle.pim_top.specs.Statuses.{IsWanting};
-ghost use Rattle.pim_top.specs.commands.Explain.{explained, tree_of};
+ghost use Rattle.pim_top.specs.commands.Explain.{explain_of, explained, tree_of};
 
 use crate::judgement::Judgement;
 use crate::program::program_of;
@@ -22,11 +21,11 @@ pub struct Explain {
 }
 
 impl WholeText for Explain {
-    type Opened = Program;
+    type Opened = Vec<u8>;
 
     ghost command = { λ c. commands.Explain c.tree };
 
-    ghost opens = { λ c file opened. program_of file ≡ Ok opened };
+    ghost opens = { λ c file opened. explain_of c.tree file ≡ Ok opened.items };
 
     fn reads(&self, origin: Origin) -> Option<u32> {
         match origin {
@@ -35,12 +34,13 @@ impl WholeText for Explain {
         }
     }
 
-    fn open(&self, alloc: Global, file: &[u8]) -> Result<Program, Judgement> {
-        program_of(alloc, file)
+    fn open(&self, alloc: Global, file: &[u8]) -> Result<Vec<u8>, Judgement> {
+        let program = program_of(alloc, file)?;
+        explained(alloc, self.tree, &program)
     }
 
-    fn text(&self, alloc: Global, opened: &Program, _input: &[u8]) -> Result<Vec<u8>, Judgement> {
-        explained(alloc, self.tree, opened)
+    fn text(&self, _alloc: Global, opened: Vec<u8>, _input: &[u8]) -> Result<Vec<u8>, Judgement> {
+        Ok(opened)
     }
 
     fn tell_fine(&self) {}

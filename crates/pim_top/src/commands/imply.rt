@@ -39,7 +39,7 @@ impl WholeText for Imply {
         Ok(())
     }
 
-    fn text(&self, alloc: Global, _opened: &(), input: &[u8]) -> Result<Vec<u8>, Judgement> {
+    fn text(&self, alloc: Global, _opened: (), input: &[u8]) -> Result<Vec<u8>, Judgement> {
         text_of(alloc, *self, input)
     }
 

@@ -34,8 +34,8 @@ impl WholeText for List {
         program_of(alloc, file)
     }
 
-    fn text(&self, alloc: Global, opened: &Program, _input: &[u8]) -> Result<Vec<u8>, Judgement> {
-        Ok(listing(alloc, opened)?)
+    fn text(&self, alloc: Global, opened: Program, _input: &[u8]) -> Result<Vec<u8>, Judgement> {
+        Ok(listing(alloc, &opened)?)
     }
 
     fn tell_fine(&self) {}

@@ -40,8 +40,8 @@ impl WholeText for Prove {
         program_of(alloc, file)
     }
 
-    fn text(&self, alloc: Global, opened: &Program, input: &[u8]) -> Result<Vec<u8>, Judgement> {
-        text_of(alloc, opened, input)
+    fn text(&self, alloc: Global, opened: Program, input: &[u8]) -> Result<Vec<u8>, Judgement> {
+        text_of(alloc, &opened, input)
     }
 
     fn tell_fine(&self) {}

@@ -63,8 +63,8 @@ impl WholeText for Share {
         }
     }
 
-    fn text(&self, alloc: Global, opened: &Parts, input: &[u8]) -> Result<Vec<u8>, Judgement> {
-        text_of(alloc, *self, opened, input)
+    fn text(&self, alloc: Global, opened: Parts, input: &[u8]) -> Result<Vec<u8>, Judgement> {
+        text_of(alloc, *self, &opened, input)
     }
 
     fn tell_fine(&self) {}
