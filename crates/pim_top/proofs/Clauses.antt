@@ -86,24 +86,24 @@ ends-file (Run fill) seen file result t calm h = elim (rows-file (run_of fill) s
   | inl fine ↦ inl fine
   | inr (inl (inl long)) ↦ inr (inl (record { refusal = refusal.TooLong origin.Program; decided = long.0; ends = long.1 }))
   | inr (inl (inr judged)) ↦ inr (inl (record { refusal = refusal.Judged judged.0; decided = (judged.1, judged.2); ends = judged.3 }))
-  | inr (inr wanting) ↦ inr (inr wanting)
+  | inr (inr memory) ↦ inr (inr memory)
 ]
 ends-file (Implyrun fill) seen file result t calm h = elim (rows-file (implyrun_of fill) seen file result t calm h) [
   | inl fine ↦ inl fine
   | inr (inl (inl long)) ↦ inr (inl (record { refusal = refusal.TooLong origin.Program; decided = long.0; ends = long.1 }))
   | inr (inl (inr judged)) ↦ inr (inl (record { refusal = refusal.Judged judged.0; decided = (judged.1, judged.2); ends = judged.3 }))
-  | inr (inr wanting) ↦ inr (inr wanting)
+  | inr (inr memory) ↦ inr (inr memory)
 ]
 ends-file (Debug fill) seen file result t calm h = elim (debug-file fill seen file result t calm h) [
   | inl fine ↦ inl fine
   | inr (inl (inl long)) ↦ inr (inl (record { refusal = refusal.TooLong origin.Program; decided = long.0; ends = long.1 }))
   | inr (inl (inr judged)) ↦ inr (inl (record { refusal = refusal.Judged judged.0; decided = (judged.1, judged.2); ends = judged.3 }))
-  | inr (inr wanting) ↦ inr (inr wanting)
+  | inr (inr memory) ↦ inr (inr memory)
 ]
 ends-file c seen file result t calm h = elim (whole-file c seen file result t calm h) [
   | inl fine ↦ inl fine
   | inr (inl decided) ↦ inr (inl (record { refusal = decided.0; decided = decided.1; ends = decided.2 }))
-  | inr (inr wanting) ↦ inr (inr wanting)
+  | inr (inr memory) ↦ inr (inr memory)
 ]
 
 -- all bytes decide, or memory ran out
@@ -115,23 +115,23 @@ ends-decided (Run fill) seen file bytes result t u calm h = elim (rows-decided (
   | inl (inl long) ↦ inl (record { answer = Err (refusal.TooLong origin.Program); decided = inl long.0; ends = long.1 })
   | inl (inr judged) ↦ inl (record { answer = Err (refusal.Judged judged.0); decided = inl (judged.1, judged.2); ends = judged.3 })
   | inr (inl late) ↦ inl (record { answer = late.0; decided = inr (late.1, late.2); ends = late.3 })
-  | inr (inr wanting) ↦ inr wanting
+  | inr (inr memory) ↦ inr memory
 ]
 ends-decided (Implyrun fill) seen file bytes result t u calm h = elim (rows-decided (implyrun_of fill) seen file bytes result t u calm h) [
   | inl (inl long) ↦ inl (record { answer = Err (refusal.TooLong origin.Program); decided = inl long.0; ends = long.1 })
   | inl (inr judged) ↦ inl (record { answer = Err (refusal.Judged judged.0); decided = inl (judged.1, judged.2); ends = judged.3 })
   | inr (inl late) ↦ inl (record { answer = late.0; decided = inr (late.1, late.2); ends = late.3 })
-  | inr (inr wanting) ↦ inr wanting
+  | inr (inr memory) ↦ inr memory
 ]
 ends-decided (Debug fill) seen file bytes result t u calm h = elim (debug-decided fill seen file bytes result t u calm h) [
   | inl (inl long) ↦ inl (record { answer = Err (refusal.TooLong origin.Program); decided = inl long.0; ends = long.1 })
   | inl (inr judged) ↦ inl (record { answer = Err (refusal.Judged judged.0); decided = inl (judged.1, judged.2); ends = judged.3 })
   | inr (inl late) ↦ inl (record { answer = late.0; decided = inr (late.1, late.2); ends = late.3 })
-  | inr (inr wanting) ↦ inr wanting
+  | inr (inr memory) ↦ inr memory
 ]
 ends-decided c seen file bytes result t u calm h = elim (whole-decided c seen file bytes result t u calm h) [
   | inl decided ↦ inl (record { answer = decided.0; decided = decided.1; ends = decided.2 })
-  | inr wanting ↦ inr wanting
+  | inr memory ↦ inr memory
 ]
 
 -- ---- of a call

@@ -91,8 +91,8 @@ undriven_note = refl
 cycle_note : judged (judgement.Netlist (Blif (blif.Net (net.Cycle (1 ∷ 0 ∷ [])) (codes "b" ∷ codes "a" ∷ [])))) ≡ codes "pim: bad input: cycle b a\n"
 cycle_note = refl
 
-wanting_note : judged (judgement.Netlist (Blif (blif.Net net.NoMemory []))) ≡ codes "pim: no memory\n"
-wanting_note = refl
+memory_note : judged (judgement.Netlist (Blif (blif.Net net.NoMemory []))) ≡ codes "pim: no memory\n"
+memory_note = refl
 
 signals_note : judged (judgement.Netlist (Blif (blif.TooLarge kind.Signals))) ≡ codes "pim: too large: signals\n"
 signals_note = refl

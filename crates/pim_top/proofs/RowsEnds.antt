@@ -168,7 +168,7 @@ early-file load s file (refusal.TooLong origin.Program) t calm h = inl (inl (ove
 early-file load s file (refusal.TooLong origin.Input) t calm h = absurd h
 early-file load s file refusal.WriteFault t calm h = absurd h
 early-file load s file (refusal.Judged j) t calm h = elim h [
-  | inl wanting ↦ inr wanting
+  | inl memory ↦ inr memory
   | inr loaded ↦ let w = loaded-same load s (Err j) file t loaded in inl (inr (j, w.0, w.1, refl))
 ]
 

@@ -78,7 +78,7 @@ rows-fine load seen file input result t u calm h fine = elim (rows-decided load 
   | inl (inl long) ↦ absurd (let z : ⊥ = omega (arith, fine.file_fits, long.0) in z)
   | inl (inr judged) ↦ absurd (let a = fine.loaded in let b = judged.2 in let z : ⊥ = cc in z)
   | inr (inl late) ↦ inl (late.3 ∙ done load file input late.0 fine late.2)
-  | inr (inr wanting) ↦ inr wanting
+  | inr (inr memory) ↦ inr memory
 ]
 
 -- a file of which no program was made gives no runner
@@ -91,6 +91,6 @@ unloaded load by keeps s (refusal.TooLong origin.Program) h = h
 unloaded load by keeps s (refusal.TooLong origin.Input) h = h
 unloaded load by keeps s refusal.WriteFault h = h
 unloaded load by keeps s (refusal.Judged j) h = elim h [
-  | inl wanting ↦ inl wanting
+  | inl memory ↦ inl memory
   | inr loaded ↦ inr (record { file = loaded.file; read = loaded.read; is = ap by loaded.is ∙ keeps j })
 ]

@@ -91,7 +91,7 @@ whole-file c seen file (Err (refusal.TooLong origin.Program)) t calm h = inr (in
 whole-file c seen file (Err (refusal.TooLong origin.Input)) t calm h = file-fine c seen h.0.file file status.TooLarge t h.0.program_read h.0.passes
 whole-file c seen file (Err refusal.WriteFault) t calm h = file-fine c seen h.file file status.WriteFault t h.program_read h.passes
 whole-file c seen file (Err (refusal.Judged j)) t calm h = elim h.0 [
-  | inl wanting ↦ inr (inr wanting)
+  | inl memory ↦ inr (inr memory)
   | inr (inl f) ↦
       let same = same-bytes (reads c origin.Program) seen.program f.file file f.program_read t in
       inr (inl (refusal.Judged j, (subst (IsWithin (reads c origin.Program)) same (read-within (reads c origin.Program) seen.program f.file f.program_read), subst (λ (x : List ℕ). FileRefused c x j) same f.refused), refl))
@@ -124,7 +124,7 @@ whole-decided c seen file input (Err (refusal.TooLong origin.Program)) t u calm 
 whole-decided c seen file input (Err (refusal.TooLong origin.Input)) t u calm h = inl (Err (refusal.TooLong origin.Input), late c seen h.0.file file input (Err (refusal.TooLong origin.Input)) t h.0.program_read h.0.passes (over-told (reads c origin.Input) seen.input input h.0.how u), refl)
 whole-decided c seen file input (Err refusal.WriteFault) t u calm h = absurd (calm.output h.took.rose)
 whole-decided c seen file input (Err (refusal.Judged j)) t u calm h = elim h.0 [
-  | inl wanting ↦ inr wanting
+  | inl memory ↦ inr memory
   | inr (inl f) ↦
       let same = same-bytes (reads c origin.Program) seen.program f.file file f.program_read t in
       inl (Err (refusal.Judged j), inl (subst (IsWithin (reads c origin.Program)) same (read-within (reads c origin.Program) seen.program f.file f.program_read), subst (λ (x : List ℕ). FileRefused c x j) same f.refused), refl)
@@ -157,7 +157,7 @@ faultless-status c file input (Err (refusal.Judged j)) f h = elim h [ inl e ↦ 
 pub whole-complete : {Y : Type 0} (c : Command) (seen : Seen) (result : Result Y Refusal) → ((file input : List ℕ) → IsFine c file input → IsFaultless c file input) → WholeEnds c seen result → IsComplete c seen result
 whole-complete c seen result law h = record {
   ends = λ file input t u calm fine. elim (whole-decided c seen file input result t u calm h) [
-    | inl d ↦ elim (faultless-status c file input d.0 (law file input fine) d.1) [ inl done ↦ inl (subst (EndsFine c) (sym d.2) done) | inr wanting ↦ inr (d.2 ∙ wanting) ]
-    | inr wanting ↦ inr wanting
+    | inl d ↦ elim (faultless-status c file input d.0 (law file input fine) d.1) [ inl done ↦ inl (subst (EndsFine c) (sym d.2) done) | inr memory ↦ inr (d.2 ∙ memory) ]
+    | inr memory ↦ inr memory
   ];
 }

@@ -59,7 +59,7 @@ FilePasses command file = Unit {0}
 
 -- the command takes these bytes: they are within the limits, have no fault, and its options are enough for them
 abbrev pub IsFine : Command → List ℕ → List ℕ → Type 0
-IsFine (commands.Compile target level cells) file input = CompilesFine target level cells input
+IsFine (commands.Compile target level cells) file input = CompilesFine target cells input
 IsFine (commands.Run fill) file input = RunsFine file input
 IsFine commands.List file input = IsProgramFile file
 IsFine (commands.Explain tree) file input = ExplainsFine tree file

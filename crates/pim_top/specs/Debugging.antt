@@ -70,7 +70,7 @@ words_end p n (Some session) line =
 abbrev pub line_end : ProgramView → ℕ → Option SessionView → List ℕ → Option (Option Refusal)
 line_end p n session line = if n == MAX_LINES then Some (Some (Judged TooManyLines)) else words_end p n session line
 
--- what ends them where no line is left: without a vector's line it is wanting, and else what is said behind all lines
+-- what ends them where no line is left: that there is none for the vector, or what is said behind all lines
 abbrev pub last_end : Option SessionView → Option Refusal → Option Refusal
 last_end None None = Some (Judged (Vector 1))
 last_end session behind = behind

@@ -52,8 +52,8 @@ abbrev pub large : List ℕ → List ℕ
 large word = codes "too large: " ++ word
 
 -- that memory ran out
-abbrev pub wanting : List ℕ
-wanting = codes "no memory"
+abbrev pub no_memory_text : List ℕ
+no_memory_text = codes "no memory"
 
 -- labels, each after a space
 abbrev pub spaced : List (List ℕ) → List ℕ
@@ -71,7 +71,7 @@ abbrev pub net_text : NetFault → List (List ℕ) → List ℕ
 net_text (net.Twice s) labels = bad (codes "driven twice" ++ spaced labels)
 net_text (net.Undriven s) labels = bad (codes "undriven" ++ spaced labels)
 net_text (net.Cycle signals) labels = bad (codes "cycle" ++ spaced labels)
-net_text net.NoMemory labels = wanting
+net_text net.NoMemory labels = no_memory_text
 
 -- why bytes are no AIGER file
 abbrev pub aiger_text : AigerFault → List ℕ
@@ -84,7 +84,7 @@ aiger_text (aiger.Delta place) = bad (codes "aiger delta at byte " ++ decimal pl
 aiger_text (aiger.Symbol place) = bad (codes "aiger symbol at byte " ++ decimal place)
 aiger_text (aiger.Net fault labels) = net_text fault labels
 aiger_text (aiger.TooLarge kind) = large (kind_word kind)
-aiger_text aiger.NoMemory = wanting
+aiger_text aiger.NoMemory = no_memory_text
 
 -- what is wrong in a line of a BLIF file, and the name that it has to do with
 abbrev pub blif_line : ℕ → List ℕ → List ℕ → List ℕ
@@ -99,7 +99,7 @@ blif_text (blif.MixedPhase line) = blif_line line (codes ": mixed phase") []
 blif_text (blif.TwiceInput line) = blif_line line (codes ": input twice") []
 blif_text (blif.Net fault labels) = net_text fault labels
 blif_text (blif.TooLarge kind) = large (kind_word kind)
-blif_text blif.NoMemory = wanting
+blif_text blif.NoMemory = no_memory_text
 
 -- why bytes are no netlist
 abbrev pub netlist_text : NetlistFault → List ℕ
@@ -110,7 +110,7 @@ netlist_text (Blif fault) = blif_text fault
 abbrev pub compiler_text : Compiler → List ℕ
 compiler_text (compiler.TooFewCells needed) = codes "too few cells: needed " ++ decimal needed
 compiler_text compiler.TooLarge = large (codes "nodes")
-compiler_text compiler.NoMemory = wanting
+compiler_text compiler.NoMemory = no_memory_text
 
 -- the words before a fault of one part of a file, and none where the file is one program
 abbrev pub part_words : Option ℕ → List ℕ
@@ -140,14 +140,14 @@ file_text part (file.Invalid fault) = invalid_text part fault
 file_text part (file.Byte place) = placed part (codes "program byte ") place []
 file_text part file.Truncated = bad (part_words part ++ codes "program truncated")
 file_text part file.TooLarge = large (codes "cells")
-file_text part file.NoMemory = wanting
+file_text part file.NoMemory = no_memory_text
 
 -- why bytes are no assembly
 abbrev pub asm_text : AsmFault → List ℕ
 asm_text (asm.Line n) = bad (codes "assembly line " ++ decimal n)
 asm_text (asm.Name n) = bad (codes "assembly name in line " ++ decimal n)
 asm_text (asm.Invalid fault) = invalid_text None fault
-asm_text asm.NoMemory = wanting
+asm_text asm.NoMemory = no_memory_text
 
 -- which cell a program uses unset
 abbrev pub unset_text : Unset → List ℕ
@@ -160,7 +160,7 @@ prove_text prove.Ports = bad (codes "ports differ")
 prove_text prove.Inputs = large (codes "inputs")
 prove_text prove.Nodes = large (codes "nodes")
 prove_text (prove.NotClean unset) = unset_text unset
-prove_text prove.NoMemory = wanting
+prove_text prove.NoMemory = no_memory_text
 
 -- at which vector and output a program differs from a netlist
 abbrev pub unequal_text : List ℕ → ℕ → List ℕ
@@ -169,13 +169,13 @@ unequal_text vector output = codes "unequal " ++ (vector ++ (codes " output " ++
 -- why a program's NORs are not explained as a graph
 abbrev pub tree_text : TreeFault → List ℕ
 tree_text tree.NotMagic = bad (codes "program is not magic")
-tree_text tree.NoMemory = wanting
+tree_text tree.NoMemory = no_memory_text
 
 -- why a netlist is not compiled to `false` and `imp`
 abbrev pub imply_text : ImplyRefusal → List ℕ
 imply_text (imply.TooFewCells needed) = codes "too few cells: needed " ++ decimal needed
 imply_text imply.TooLarge = large (codes "nodes")
-imply_text imply.NoMemory = wanting
+imply_text imply.NoMemory = no_memory_text
 
 -- why a program of `false` and `imp` is not valid
 abbrev pub imply_invalid_text : ImplyInvalid → List ℕ
@@ -189,12 +189,12 @@ imply_file_text (imply_file.Line n) = bad (codes "imply line " ++ decimal n)
 imply_file_text (imply_file.Invalid fault) = imply_invalid_text fault
 imply_file_text imply_file.TooLarge = large (codes "cells")
 imply_file_text imply_file.Truncated = bad (codes "imply truncated")
-imply_file_text imply_file.NoMemory = wanting
+imply_file_text imply_file.NoMemory = no_memory_text
 
 -- why bytes are no program files one after another
 abbrev pub many_text : ManyFault → List ℕ
 many_text (many.Part part fault) = file_text (Some part) fault
-many_text many.NoMemory = wanting
+many_text many.NoMemory = no_memory_text
 
 -- that the turn in a line is wrong
 abbrev pub turn_text : ℕ → List ℕ
@@ -206,7 +206,7 @@ share_text (share.OtherTarget part) = bad (part_words (Some part) ++ codes "othe
 share_text (share.TooFewCells needed) = codes "too few cells: needed " ++ decimal needed
 share_text (share.Turn turn) = turn_text (turn + 1)
 share_text (share.Missing part) = bad (codes "turns missing part " ++ decimal part)
-share_text share.NoMemory = wanting
+share_text share.NoMemory = no_memory_text
 
 -- that the command in a line is wrong, and how
 abbrev pub debug_line : ℕ → List ℕ → List ℕ → List ℕ
@@ -218,7 +218,7 @@ debug_text line debug.BadCommand = debug_line line (codes ": bad command") []
 debug_text line (debug.NoSuchBreak n) = debug_line line (codes ": no such break ") (decimal n)
 debug_text line (debug.OutOfProgram k) = debug_line line (codes ": out of program ") (decimal k)
 debug_text line (debug.NoSuchCell c) = debug_line line (codes ": no such cell ") (decimal c)
-debug_text line debug.NoMemory = wanting
+debug_text line debug.NoMemory = no_memory_text
 
 -- why bytes are refused
 abbrev pub judgement_text : Judgement → List ℕ
@@ -237,7 +237,7 @@ judgement_text (judgement.Share fault) = share_text fault
 judgement_text (judgement.Vector n) = bad (codes "vector line " ++ decimal n)
 judgement_text (judgement.Command n fault) = debug_text n fault
 judgement_text judgement.TooManyLines = large (codes "rows")
-judgement_text judgement.NoMemory = wanting
+judgement_text judgement.NoMemory = no_memory_text
 
 -- the name of a source
 abbrev pub origin_word : Origin → List ℕ
@@ -247,7 +247,7 @@ origin_word origin.Input = codes "input"
 -- why a call is refused
 abbrev pub refusal_text : Refusal → List ℕ
 refusal_text refusal.Usage = codes "usage"
-refusal_text refusal.NoMemory = wanting
+refusal_text refusal.NoMemory = no_memory_text
 refusal_text (refusal.ReadFault origin) = codes "read fault: " ++ origin_word origin
 refusal_text (refusal.TooLong origin) = large (codes "bytes")
 refusal_text refusal.WriteFault = codes "write fault"

@@ -1,7 +1,7 @@
 -- How a command ends that executes each line of its input as a row.
 use Rattle.std.specs.Prelude.{◌≡◌, ◌⊎◌, ℕ, List, Result, Ok, Err}
 use Rattle.pim_batch.specs.Runners.{Runner}
-use Rattle.pim_top.specs.Statuses.{IsWanting}
+use Rattle.pim_top.specs.Statuses.{IsNoMemory}
 use Rattle.pim_top.specs.Streams.{HasFailed, IsOverrun, IsRead, IsUntouched, Seen, Stream}
 use Rattle.pim_top.specs.Walks.{WalkEnds}
 use Rattle.pim_top.specs.declared.judgement.Judgement.{Judgement}
@@ -21,7 +21,7 @@ abbrev pub IsUnloaded : {X : Type 0} → (List ℕ → Result X Judgement) → S
 IsUnloaded load s NoMemory = Unit {0}
 IsUnloaded load s (ReadFault Program) = HasFailed s MAX_PROGRAM
 IsUnloaded load s (TooLong Program) = IsOverrun s MAX_PROGRAM
-IsUnloaded load s (Judged j) = IsWanting j ⊎ IsLoaded load s (Err j)
+IsUnloaded load s (Judged j) = IsNoMemory j ⊎ IsLoaded load s (Err j)
 IsUnloaded load s r = ⊥
 
 -- no byte of the input was taken, and nothing was written

@@ -151,8 +151,8 @@ judgement_status judgement.TooManyLines = status.TooLarge
 judgement_status judgement.NoMemory = status.NoMemory
 
 -- a judgement that memory ran out, which says nothing of the bytes
-abbrev pub IsWanting : Judgement → Type 0
-IsWanting j = judgement_status j ≡ status.NoMemory
+abbrev pub IsNoMemory : Judgement → Type 0
+IsNoMemory j = judgement_status j ≡ status.NoMemory
 
 -- the status of a refusal
 abbrev pub refusal_status : Refusal → Status

@@ -1,7 +1,7 @@
 -- How a command ends that writes its text whole.
 use Rattle.std.specs.Prelude.{◌⊎◌, ℕ, List, Result, Ok, Err}
 use Rattle.pim_words.specs.declared.command.Command.{Command}
-use Rattle.pim_top.specs.Statuses.{IsWanting}
+use Rattle.pim_top.specs.Statuses.{IsNoMemory}
 use Rattle.pim_top.specs.Answers.{Answers, FilePasses, FileRefused}
 use Rattle.pim_top.specs.Reads.{IsReadBy, OfLimit, reads}
 use Rattle.pim_top.specs.Streams.{HasFailed, IsCut, IsOverrun, IsUntouched, IsWritten, Seen, Stream}
@@ -58,7 +58,7 @@ IsExplained command seen (ReadFault Input) = InputEnds command seen HasFailed
 IsExplained command seen (TooLong Program) = ProgramEnds command seen IsOverrun
 IsExplained command seen (TooLong Input) = InputEnds command seen IsOverrun
 IsExplained command seen WriteFault = ⊥
-IsExplained command seen (Judged j) = IsWanting j ⊎ (IsFileJudged command seen j ⊎ IsInputJudged command seen j)
+IsExplained command seen (Judged j) = IsNoMemory j ⊎ (IsFileJudged command seen j ⊎ IsInputJudged command seen j)
 
 -- all was written; the output failed; or the command was refused, and the output was not touched
 abbrev pub WholeEnds : {Y : Type 0} → Command → Seen → Result Y Refusal → Type 0

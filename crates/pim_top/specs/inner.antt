@@ -1,5 +1,5 @@
 pub mod Faultless
 pub mod Sessions
 pub mod Standing
-pub mod Unread
+pub mod NotWhole
 pub mod Writing

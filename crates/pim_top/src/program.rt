@@ -1,6 +1,6 @@
 //! Programs that a command reads.
 ghost use Rattle.std.specs.Prelude.{◌≡◌, ◌⊎◌, ◌≤◌, Ok, Err, IfErr, IfOk, length};
-ghost use Rattle.pim_top.specs.Statuses.{IsWanting};
+ghost use Rattle.pim_top.specs.Statuses.{IsNoMemory};
 ghost use Rattle.pim_top.specs.Programs.{program_of};
 ghost use Rattle.pim_top.specs.Rows.{IsLoaded, IsUnloaded};
 ghost use Rattle.pim_top.specs.Streams.{stream};
@@ -17,7 +17,7 @@ use std::alloc::Global;
 pub(crate) fn program_of(alloc: Global, file: &[u8]) -> Result<Program, Judgement>
     requires { length file.now ≤ MAX_PROGRAM }
     ensures program { IfOk result (λ program. program_of file.now ≡ Ok program) }
-    ensures refused { IfErr result (λ j. IsWanting j ⊎ (program_of file.now ≡ Err j)) }
+    ensures refused { IfErr result (λ j. IsNoMemory j ⊎ (program_of file.now ≡ Err j)) }
 {
     match parse(alloc, file) {
         Ok(program) => Ok(program),

@@ -2,7 +2,7 @@
 ghost use Rattle.std.specs.Prelude.{◌≡◌, IfErr, IfOk, option_map};
 ghost use Rattle.pim_top.specs.Reads.{IsReadBy};
 ghost use Rattle.pim_top.specs.Streams.{stream, IsUntouched};
-ghost use Rattle.pim_top.specs.inner.Unread.{IsUnread};
+ghost use Rattle.pim_top.specs.inner.NotWhole.{IsNotWhole};
 
 use crate::refusal::{Origin, Refusal};
 use pim_io::{ReadAllFault, Source, read_all};
@@ -16,7 +16,7 @@ pub(crate) fn bytes_of<S: Source>(
     limit: Option<u32>,
 ) -> Result<Vec<u8>, Refusal>
     ensures read { IfOk result (λ bytes. IsReadBy limit (stream S.left S.faults source.old source.new) bytes.items) }
-    ensures refused { IfErr result (IsUnread origin limit (stream S.left S.faults source.old source.new)) }
+    ensures refused { IfErr result (IsNotWhole origin limit (stream S.left S.faults source.old source.new)) }
     ensures apart { limit ≡ None → IsUntouched (stream S.left S.faults source.old source.new) }
 {
     let Some(limit) = limit else {

@@ -2,7 +2,7 @@
 //! writes the text.
 ghost use Rattle.std.specs.Prelude.{◌≡◌, ◌⊎◌, ℕ, List, IfErr, IfOk};
 ghost use Rattle.pim_words.specs.declared.command.Command.{Command};
-ghost use Rattle.pim_top.specs.Statuses.{IsWanting};
+ghost use Rattle.pim_top.specs.Statuses.{IsNoMemory};
 ghost use Rattle.pim_top.specs.Answers.{Answers, FilePasses, FileRefused, IsFine};
 ghost use Rattle.pim_top.specs.Reads.{IsApart, IsWithin, reads};
 ghost use Rattle.pim_top.specs.Streams.{seen, stream};
@@ -35,7 +35,7 @@ pub(crate) trait WholeText {
         requires { IsWithin (reads (command self.now) Origin.Program) file.now }
         ensures opened { IfOk result (opens self.now file.now) }
         ensures passes { IfOk result (λ opened. FilePasses (command self.now) file.now) }
-        ensures refused { IfErr result (λ j. IsWanting j ⊎ FileRefused (command self.now) file.now j) };
+        ensures refused { IfErr result (λ j. IsNoMemory j ⊎ FileRefused (command self.now) file.now j) };
 
     /// The text for the bytes of the input, or why they are refused.
     fn text(&self, alloc: Global, opened: Self::Opened, input: &[u8]) -> Result<Vec<u8>, Judgement>
@@ -43,7 +43,7 @@ pub(crate) trait WholeText {
         ensures text { IfOk result (λ text. (file : List ℕ) → opens self.now file opened
             → Answers (command self.now) file input.now (Ok text.items)) }
         ensures refused { IfErr result (λ j. (file : List ℕ) → opens self.now file opened
-            → IsWanting j ⊎ Answers (command self.now) file input.now (Err j)) };
+            → IsNoMemory j ⊎ Answers (command self.now) file input.now (Err j)) };
 
     /// A law, which computes nothing: what the command takes is not refused.
     fn tell_fine(&self)

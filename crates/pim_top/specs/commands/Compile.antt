@@ -85,7 +85,7 @@ CompileAnswers target level budget bytes (Err (Compile refusal)) = IsUncompiled 
 CompileAnswers target level budget bytes (Err j) = ⊥
 
 -- the bytes are a netlist within the limits for which the budget is enough
-pub record CompilesFine (target : TargetWord) (level : LevelWord) (budget : ℕ) (bytes : List ℕ) : Type 0 where
+pub record CompilesFine (target : TargetWord) (budget : ℕ) (bytes : List ℕ) : Type 0 where
   pub fits : length bytes ≤ MAX_INPUT
   pub draft : DraftView
   pub is_net : net_of bytes ≡ Ok draft

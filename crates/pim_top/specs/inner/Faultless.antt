@@ -4,7 +4,7 @@ use Rattle.pim_words.specs.declared.command.Command.{Command}
 use Rattle.pim_top.specs.Answers.{Answers, EndsFine, FileRefused, IsFine}
 use Rattle.pim_top.specs.Calls.{IsCalm}
 use Rattle.pim_top.specs.Reads.{IsWithin, Tells, reads}
-use Rattle.pim_top.specs.Statuses.{IsWanting, answer_status, judgement_status}
+use Rattle.pim_top.specs.Statuses.{IsNoMemory, answer_status, judgement_status}
 use Rattle.pim_top.specs.Streams.{Seen}
 use Rattle.pim_top.specs.declared.judgement.Judgement.{Judgement}
 use Rattle.pim_top.specs.declared.refusal.Origin.TheVariants.{Input, Program}
@@ -15,8 +15,8 @@ use Rattle.pim_top.specs.declared.status.Status.TheVariants.{NoMemory}
 pub record IsFaultless (command : Command) (file input : List ℕ) : Type 0 where
   pub file_fits : IsWithin (reads command Program) file
   pub input_fits : IsWithin (reads command Input) input
-  pub file_passes : (j : Judgement) → FileRefused command file j → IsWanting j
-  pub input_passes : (j : Judgement) → Answers command file input (Err j) → EndsFine command (judgement_status j) ⊎ IsWanting j
+  pub file_passes : (j : Judgement) → FileRefused command file j → IsNoMemory j
+  pub input_passes : (j : Judgement) → Answers command file input (Err j) → EndsFine command (judgement_status j) ⊎ IsNoMemory j
 
 -- where the sources tell bytes that the command takes, and nothing of the outside failed, it ends as with such bytes, or memory ran out
 pub record IsComplete {Y : Type 0} (command : Command) (seen : Seen) (result : Result Y Refusal) : Type 0 where

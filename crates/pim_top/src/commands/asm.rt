@@ -1,7 +1,7 @@
 //! `asm`: assembly becomes the text of a program.
 ghost use Rattle.std.specs.Prelude.{◌≡◌, ◌⊎◌, ◌≤◌, Ok, Err, IfErr, IfOk, length};
 ghost use Rattle.pim_words.specs.declared.command.Command.TheVariants as commands;
-ghost use Rattle.pim_top.specs.Statuses.{IsWanting};
+ghost use Rattle.pim_top.specs.Statuses.{IsNoMemory};
 ghost use Rattle.pim_top.specs.Programs.{assembled};
 
 use crate::judgement::Judgement;
@@ -47,7 +47,7 @@ impl WholeText for Asm {
 fn assembled(alloc: Global, input: &[u8]) -> Result<Program, Judgement>
     requires { length input.now ≤ MAX_INPUT }
     ensures program { IfOk result (λ program. assembled input.now ≡ Ok program) }
-    ensures refused { IfErr result (λ j. IsWanting j ⊎ (assembled input.now ≡ Err j)) }
+    ensures refused { IfErr result (λ j. IsNoMemory j ⊎ (assembled input.now ≡ Err j)) }
 {
     match assemble(alloc, input) {
         Ok(program) => Ok(program),

@@ -1,7 +1,7 @@
 //! `explain`: a program becomes an account of when each of its cells is used.
 ghost use Rattle.std.specs.Prelude.{◌≡◌, ◌⊎◌, Ok, Err, IfErr, IfOk};
 ghost use Rattle.pim_words.specs.declared.command.Command.TheVariants as commands;
-ghost use Rattle.pim_top.specs.Statuses.{IsWanting};
+ghost use Rattle.pim_top.specs.Statuses.{IsNoMemory};
 ghost use Rattle.pim_top.specs.commands.Explain.{explain_of, explained, tree_of};
 
 use crate::judgement::Judgement;
@@ -49,7 +49,7 @@ impl WholeText for Explain {
 /// The lives of a program's cells, and the line on its graph where it is asked for.
 fn explained(alloc: Global, tree: bool, program: &Program) -> Result<Vec<u8>, Judgement>
     ensures text { IfOk result (λ text. explained tree program.now ≡ Ok text.items) }
-    ensures refused { IfErr result (λ j. IsWanting j ⊎ (explained tree program.now ≡ Err j)) }
+    ensures refused { IfErr result (λ j. IsNoMemory j ⊎ (explained tree program.now ≡ Err j)) }
 {
     if tree {
         with_tree(alloc, program)
@@ -61,7 +61,7 @@ fn explained(alloc: Global, tree: bool, program: &Program) -> Result<Vec<u8>, Ju
 /// The lives of a program's cells and the line on the graph of its NORs.
 fn with_tree(alloc: Global, program: &Program) -> Result<Vec<u8>, Judgement>
     ensures text { IfOk result (λ text. tree_of program.now.target program.now ≡ Ok text.items) }
-    ensures refused { IfErr result (λ j. IsWanting j ⊎ (tree_of program.now.target program.now ≡ Err j)) }
+    ensures refused { IfErr result (λ j. IsNoMemory j ⊎ (tree_of program.now.target program.now ≡ Err j)) }
 {
     match explain_tree(alloc, program) {
         Ok(text) => Ok(text),

@@ -2,7 +2,7 @@
 ghost use Rattle.std.specs.Prelude.{◌≡◌, ◌⊎◌, ◌≤◌, Ok, Err, length, IfErr, IfOk};
 ghost use Rattle.pim_isa.specs.declared.draft.TheConstants.{MAX_CELLS};
 ghost use Rattle.pim_words.specs.declared.command.Command.TheVariants as commands;
-ghost use Rattle.pim_top.specs.Statuses.{IsWanting};
+ghost use Rattle.pim_top.specs.Statuses.{IsNoMemory};
 ghost use Rattle.pim_top.specs.commands.Imply.{ImplyAnswers};
 
 use crate::judgement::Judgement;
@@ -50,7 +50,7 @@ impl WholeText for Imply {
 fn text_of(alloc: Global, words: Imply, bytes: &[u8]) -> Result<Vec<u8>, Judgement>
     requires { length bytes.now ≤ MAX_INPUT }
     ensures text { IfOk result (λ text. ImplyAnswers words.cells bytes.now (Ok text.items)) }
-    ensures refused { IfErr result (λ j. IsWanting j ⊎ ImplyAnswers words.cells bytes.now (Err j)) }
+    ensures refused { IfErr result (λ j. IsNoMemory j ⊎ ImplyAnswers words.cells bytes.now (Err j)) }
 {
     let net = match netlist::read(alloc, bytes) {
         Ok(net) => net,

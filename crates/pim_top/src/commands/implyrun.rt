@@ -3,7 +3,7 @@ ghost use Rattle.std.specs.Prelude.{◌≡◌, ◌⊎◌, ◌≤◌, Ok, Err, If
 ghost use Rattle.pim_words.specs.declared.command.Command.TheVariants as commands;
 ghost use Rattle.pim_words.specs.declared.command.FillWord.{FillWord};
 ghost use Rattle.pim_top.specs.Rows.{IsLoaded, IsUnloaded, RowsEnd};
-ghost use Rattle.pim_top.specs.Statuses.{IsWanting};
+ghost use Rattle.pim_top.specs.Statuses.{IsNoMemory};
 ghost use Rattle.pim_top.specs.Streams.{seen, stream};
 ghost use Rattle.pim_top.specs.commands.Implyrun.{implication_of, implyrun_of};
 ghost use Rattle.pim_top.specs.inner.Faultless.{IsComplete};
@@ -72,7 +72,7 @@ fn load<P: Source>(alloc: Global, source: &mut P) -> Result<ImplyProgram, Refusa
 fn implication_of(alloc: Global, file: &[u8]) -> Result<ImplyProgram, Judgement>
     requires { length file.now ≤ MAX_PROGRAM }
     ensures program { IfOk result (λ program. implication_of file.now ≡ Ok program) }
-    ensures refused { IfErr result (λ j. IsWanting j ⊎ (implication_of file.now ≡ Err j)) }
+    ensures refused { IfErr result (λ j. IsNoMemory j ⊎ (implication_of file.now ≡ Err j)) }
 {
     match parse_imply(alloc, file) {
         Ok(program) => Ok(program),

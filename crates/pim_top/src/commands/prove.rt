@@ -2,7 +2,7 @@
 ghost use Rattle.std.specs.Prelude.{◌≡◌, ◌⊎◌, ◌≤◌, ◌^◌, ◌++◌, ℕ, List, Ok, Err, IfErr, IfOk, codes, decimal, length};
 ghost use Rattle.pim_words.specs.declared.command.Command.TheVariants as commands;
 ghost use Rattle.pim_top.specs.Programs.{program_of};
-ghost use Rattle.pim_top.specs.Statuses.{IsWanting};
+ghost use Rattle.pim_top.specs.Statuses.{IsNoMemory};
 ghost use Rattle.pim_top.specs.commands.Prove.{ProveAnswers};
 
 use crate::judgement::Judgement;
@@ -53,7 +53,7 @@ fn text_of(alloc: Global, program: &Program, input: &[u8]) -> Result<Vec<u8>, Ju
     requires { length input.now ≤ MAX_INPUT }
     ensures text { IfOk result (λ text. (file : List ℕ) → program_of file ≡ Ok program.now → ProveAnswers file input.now (Ok text.items)) }
     ensures refused { IfErr result (λ j. (file : List ℕ) → program_of file ≡ Ok program.now
-        → IsWanting j ⊎ ProveAnswers file input.now (Err j)) }
+        → IsNoMemory j ⊎ ProveAnswers file input.now (Err j)) }
 {
     let net = match netlist::read(alloc, input) {
         Ok(net) => net,

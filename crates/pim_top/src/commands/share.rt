@@ -3,7 +3,7 @@ ghost use Rattle.std.specs.Prelude.{◌≡◌, ◌⊎◌, ◌≤◌, ◌<◌, �
 ghost use Rattle.pim_io.specs.Lines.{line_view};
 ghost use Rattle.pim_isa.specs.declared.draft.TheConstants.{MAX_CELLS};
 ghost use Rattle.pim_words.specs.declared.command.Command.TheVariants as commands;
-ghost use Rattle.pim_top.specs.Statuses.{IsWanting};
+ghost use Rattle.pim_top.specs.Statuses.{IsNoMemory};
 ghost use Rattle.pim_top.specs.commands.Share.{ShareAnswers, line_text, parts_of, turn_of, turns_of};
 
 use crate::judgement::Judgement;
@@ -76,7 +76,7 @@ fn text_of(alloc: Global, words: Share, parts: &Parts, input: &[u8]) -> Result<V
     ensures text { IfOk result (λ text. (file : List ℕ) → parts_of file ≡ Ok parts.now
         → ShareAnswers words.cells file input.now (Ok text.items)) }
     ensures refused { IfErr result (λ j. (file : List ℕ) → parts_of file ≡ Ok parts.now
-        → IsWanting j ⊎ ShareAnswers words.cells file input.now (Err j)) }
+        → IsNoMemory j ⊎ ShareAnswers words.cells file input.now (Err j)) }
 {
     let turns = turns_of(alloc, input)?;
     let parts = parts.programs.as_slice();
@@ -90,7 +90,7 @@ fn text_of(alloc: Global, words: Share, parts: &Parts, input: &[u8]) -> Result<V
 fn turns_of(alloc: Global, input: &[u8]) -> Result<Vec<u32>, Judgement>
     requires { length input.now ≤ MAX_INPUT }
     ensures turns { IfOk result (λ turns. turns_of input.now ≡ Ok turns.items) }
-    ensures refused { IfErr result (λ j. IsWanting j ⊎ (turns_of input.now ≡ Err j)) }
+    ensures refused { IfErr result (λ j. IsNoMemory j ⊎ (turns_of input.now ≡ Err j)) }
     ensures few { IfOk result (λ turns. length turns.items < 2 ^ 28) }
 {
     let mut turns = Vec::new(alloc);

@@ -23,21 +23,21 @@ not_scarce : (told need coarse budget : ℕ) → (need ≤ budget) ⊎ (coarse �
 not_scarce told need coarse budget (inl room) is below bound = omega arith
 not_scarce told need coarse budget (inr room) is below bound = omega arith
 
-uncompiled : (target : TargetWord) (level : LevelWord) (budget : ℕ) (bytes : List ℕ) (r : Compiler) → CompilesFine target level budget bytes → IsUncompiled target budget bytes r → IsFineStatus (compiler_status r)
-uncompiled target level budget bytes (compiler.TooFewCells needed) fine h =
+uncompiled : (target : TargetWord) (budget : ℕ) (bytes : List ℕ) (r : Compiler) → CompilesFine target budget bytes → IsUncompiled target budget bytes r → IsFineStatus (compiler_status r)
+uncompiled target budget bytes (compiler.TooFewCells needed) fine h =
     let e = fine.enough h.net h.checked (let a = h.is_net in let b = fine.is_net in cc) in
     absurd (not_scarce needed (need h.net (machine_of target)) (coarse_need h.net (machine_of target)) budget e.room h.right.0.is h.right.0.below h.right.1)
-uncompiled target level budget bytes compiler.TooLarge fine h =
+uncompiled target budget bytes compiler.TooLarge fine h =
     let e = fine.enough h.net h.checked (let a = h.is_net in let b = fine.is_net in cc) in
     absurd (let r = h.right.0 in let z : ⊥ = omega (arith, e.few, r) in z)
-uncompiled target level budget bytes compiler.NoMemory fine h = refl
+uncompiled target budget bytes compiler.NoMemory fine h = refl
 
-judged : (target : TargetWord) (level : LevelWord) (budget : ℕ) (bytes : List ℕ) (j : Judgement) → CompilesFine target level budget bytes → CompileAnswers target level budget bytes (Err j) → IsFineStatus (judgement_status j)
+judged : (target : TargetWord) (level : LevelWord) (budget : ℕ) (bytes : List ℕ) (j : Judgement) → CompilesFine target budget bytes → CompileAnswers target level budget bytes (Err j) → IsFineStatus (judgement_status j)
 judged target level budget bytes (judgement.Netlist fault) fine h = absurd (let a = fine.is_net in let z : ⊥ = cc in z)
-judged target level budget bytes (judgement.Compile r) fine h = uncompiled target level budget bytes r fine h
+judged target level budget bytes (judgement.Compile r) fine h = uncompiled target budget bytes r fine h
 judged target level budget bytes j fine h = absurd h
 
-pub compile-fine : (target : TargetWord) (level : LevelWord) (budget : ℕ) (file bytes : List ℕ) → CompilesFine target level budget bytes → IsFaultless (commands.Compile target level budget) file bytes
+pub compile-fine : (target : TargetWord) (level : LevelWord) (budget : ℕ) (file bytes : List ℕ) → CompilesFine target budget bytes → IsFaultless (commands.Compile target level budget) file bytes
 compile-fine target level budget file bytes fine = record {
   file_fits = tt;
   input_fits = fine.fits;

@@ -43,6 +43,6 @@ debug-complete fill seen result h = record {
     | inl (inl long) ↦ absurd (let z : ⊥ = omega (arith, fine.file_fits, long.0) in z)
     | inl (inr judged) ↦ absurd (let a : program_of file ≡ Ok fine.program = is-loaded fill file input fine in let b = judged.2 in let z : ⊥ = cc in z)
     | inr (inl late) ↦ inl (late.3 ∙ lines-fine fill file input late.0 fine late.2)
-    | inr (inr wanting) ↦ inr wanting
+    | inr (inr memory) ↦ inr memory
   ];
 }

@@ -5,7 +5,7 @@ use Rattle.pim_imply.specs.Costs.{needed_of}
 use Rattle.pim_imply.specs.declared.refusal.ImplyRefusal.{ImplyRefusal}
 use Rattle.pim_imply.specs.declared.refusal.ImplyRefusal.TheVariants as imply
 use Rattle.pim_words.specs.declared.command.Command.TheVariants as commands
-use Rattle.pim_top.specs.Statuses.{IsWanting, imply_status}
+use Rattle.pim_top.specs.Statuses.{IsNoMemory, imply_status}
 use Rattle.pim_top.specs.commands.Imply.{ImpliesFine, ImplyAnswers, IsUnimplied}
 use Rattle.pim_top.specs.declared.judgement.Judgement.{Judgement}
 use Rattle.pim_top.specs.declared.judgement.Judgement.TheVariants as judgement
@@ -25,7 +25,7 @@ refused budget bytes imply.TooLarge fine h =
     absurd (let r = h.right in let z : ⊥ = omega (arith, e.few, r) in z)
 refused budget bytes imply.NoMemory fine h = refl
 
-judged : (budget : ℕ) (bytes : List ℕ) (j : Judgement) → ImpliesFine budget bytes → ImplyAnswers budget bytes (Err j) → IsWanting j
+judged : (budget : ℕ) (bytes : List ℕ) (j : Judgement) → ImpliesFine budget bytes → ImplyAnswers budget bytes (Err j) → IsNoMemory j
 judged budget bytes (judgement.Netlist fault) fine h = absurd (let a = fine.is_net in let z : ⊥ = cc in z)
 judged budget bytes (judgement.Imply r) fine h = refused budget bytes r fine h
 judged budget bytes j fine h = absurd h

@@ -3,13 +3,13 @@ use Rattle.std.proofs.Common.{◌≡◌, ◌⊎◌, ℕ, List, Err, inl, inr, re
 use Rattle.pim_net.specs.Netlist.{draft_of}
 use Rattle.pim_words.specs.declared.command.Command.TheVariants as commands
 use Rattle.pim_top.specs.Answers.{EndsFine}
-use Rattle.pim_top.specs.Statuses.{IsWanting, judgement_status}
+use Rattle.pim_top.specs.Statuses.{IsNoMemory, judgement_status}
 use Rattle.pim_top.specs.commands.Prove.{ProveAnswers, ProvesFine}
 use Rattle.pim_top.specs.declared.judgement.Judgement.{Judgement}
 use Rattle.pim_top.specs.declared.judgement.Judgement.TheVariants as judgement
 use Rattle.pim_top.specs.inner.Faultless.{IsFaultless}
 
-judged : (file input : List ℕ) (j : Judgement) → ProvesFine file input → ProveAnswers file input (Err j) → EndsFine commands.Prove (judgement_status j) ⊎ IsWanting j
+judged : (file input : List ℕ) (j : Judgement) → ProvesFine file input → ProveAnswers file input (Err j) → EndsFine commands.Prove (judgement_status j) ⊎ IsNoMemory j
 judged file input (judgement.Netlist fault) fine h = absurd (let a = fine.is_net in let z : ⊥ = cc in z)
 judged file input (judgement.Prove fault) fine h = absurd (
     let same_net : draft_of h.net ≡ fine.draft = (let a = h.is_net in let b = fine.is_net in cc) in
