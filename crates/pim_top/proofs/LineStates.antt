@@ -10,7 +10,7 @@ use Rattle.pim_vectors.specs.declared.fault.LinesFault.{LinesFault}
 use Rattle.pim_vectors.specs.declared.fault.LinesFault.TheVariants as faults
 use Rattle.pim_vectors.specs.declared.limits.TheConstants.{MAX_LINES}
 use Rattle.pim_io.specs.declared.limits.TheConstants.{MAX_INPUT}
-use Rattle.pim_top.specs.Judged.{behind_lines, judged_lines, judged_within, last_piece, settled}
+use Rattle.pim_top.specs.Judged.{Halts, behind_lines, judged_lines, judged_within, last_piece, settled}
 use Rattle.pim_top.specs.declared.refusal.Origin.TheVariants as origin
 use Rattle.pim_top.specs.declared.refusal.Refusal.TheVariants as refusal
 use Rattle.pim_top.specs.inner.Standing.{IsAtLine}
@@ -229,3 +229,16 @@ line-more longest bytes left rest front l new line h said same given behind plac
           },
           further ∙ ap (λ (t : List ℕ). lines front ++ t ∷ []) text_is,
         )
+
+-- a source that fails behind the lines that were handed out
+pub halts-next : (longest : ℕ) (bytes left rest front : List ℕ) (l new : LinesView) → IsAtLine longest bytes left l front →
+    new.held ++ rest ≡ l.held ++ left → new.place + length (new.held ++ rest) ≡ l.place + length (l.held ++ left) →
+    line_len new.held ≡ length new.held → length new.held < longest + 2 → new.place + length new.held ≤ MAX_INPUT → Halts longest bytes rest front
+halts-next longest bytes left rest front l new h kept place none short within = record {
+  held = new.held;
+  cut = h.cut ∙ ap (λ (r : List ℕ). front ++ r) (sym kept);
+  whole = elim h.whole [ inl e ↦ inl e | inr e ↦ inr (kept ∙ e) ];
+  waits = none;
+  short = short;
+  within = omega (arith, within, place, ap length kept, h.place);
+}

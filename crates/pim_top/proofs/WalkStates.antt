@@ -19,7 +19,7 @@ use Rattle.pim_top.specs.declared.refusal.Origin.TheVariants as origin
 use Rattle.pim_top.specs.declared.refusal.Refusal.{Refusal}
 use Rattle.pim_top.specs.declared.refusal.Refusal.TheVariants as refusal
 use Rattle.pim_top.specs.inner.Standing.{IsEnd, IsRefusedHere, IsWalk, Stops, TakesUp, lines_refusal}
-use Rattle.pim_top.proofs.LineStates.{Says, judged-front, line-more, line-next, long-next, many-next, none-next, over-next}
+use Rattle.pim_top.proofs.LineStates.{Says, halts-next, judged-front, line-more, line-next, long-next, many-next, none-next, over-next}
 
 -- ---- what is judged of all bytes, by the lines that were handed out and those behind them
 refusal-here : (width : ℕ) (bytes left front : List ℕ) (l : LinesView) (more : List (List ℕ)) → IsWalk width bytes left l front → judged_lines width bytes ≡ lines front ++ more → input_refusal width bytes ≡ first_refusal width l.given (behind_lines bytes) more
@@ -190,14 +190,9 @@ pub failed-told : (a b : Option (List ℕ)) (width : ℕ) (old new : LinesView) 
     Told a b (λ left rest. (bytes front : List ℕ) → IsWalk width bytes left old front → Stops width bytes rest front (lines_refusal fault))
 failed-told a b width old new faults.Fault after said =
     told-both a b (λ left rest. new.held ++ rest ≡ old.held ++ left) (λ left rest. new.place + length (new.held ++ rest) ≡ old.place + length (old.held ++ left)) _
-    (λ left rest kept place. λ bytes front h. record {
-      held = new.held;
-      cut = h.at.cut ∙ ap (λ (r : List ℕ). front ++ r) (sym kept);
-      whole = elim h.at.whole [ inl e ↦ inl e | inr e ↦ inr (kept ∙ e) ];
-      waits = (after.waits refl).none;
-      short = omega (arith, (after.waits refl).short, after.longest, h.at.same);
-      within = omega (arith, (after.waits refl).within, place, ap length kept, h.at.place);
-    })
+    (λ left rest kept place. λ bytes front h.
+    let w = after.waits refl in
+    halts-next width bytes left rest front old new h.at kept place w.none (omega (arith, w.short, after.longest, h.at.same)) w.within)
     after.rest after.place
 failed-told a b width old new (faults.Long n) after said =
     told-map a b (λ left rest. next_of old (old.held ++ left) ≡ Err (faults.Long n)) _

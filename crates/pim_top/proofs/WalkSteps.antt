@@ -72,12 +72,7 @@ pub refused-here : (runner : Runner) (bytes left rest : List ℕ) (before taken 
 refused-here runner bytes left rest before taken l rows refusal.WriteFault other room h s = absurd (other refl)
 refused-here runner bytes left rest before taken l rows (refusal.ReadFault origin.Input) other room h s = record {
   front = h.front;
-  held = s.held;
-  cut = s.cut;
-  whole = s.whole;
-  waits = s.waits;
-  short = s.short;
-  within = s.within;
+  halts = s;
   fit = all-fit runner.width bytes left h.front l h.walk;
   took = tiles-took runner bytes left before taken l rows room h;
 }

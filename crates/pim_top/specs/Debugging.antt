@@ -1,5 +1,5 @@
 -- What the lines of a debugger's input come to: the first one is the vector of a session, and each further one is a command of it.
-use Rattle.std.specs.Prelude.{◌≡◌, ◌⊎◌, ℕ, ◌+◌, ◌==◌, nat_lt, Bool, true, false, List, [], ◌∷◌, ◌++◌, length, if◌then◌else◌, codes, decimal, Option, None, Some}
+use Rattle.std.specs.Prelude.{◌≡◌, ℕ, ◌+◌, ◌==◌, nat_lt, Bool, true, false, List, [], ◌∷◌, ◌++◌, length, if◌then◌else◌, codes, decimal, Option, None, Some}
 use Rattle.pim_debug.specs.Answers.{AnswersLine, refusal_of}
 use Rattle.pim_debug.specs.Commands.{command_of}
 use Rattle.pim_debug.specs.States.{SessionView, State}
@@ -11,17 +11,15 @@ use Rattle.pim_debug.specs.declared.reply.Reply.{Reply}
 use Rattle.pim_debug.specs.declared.reply.Reply.TheVariants as reply
 use Rattle.pim_io.specs.Bits.{bits_of}
 use Rattle.pim_io.specs.Outside.{TookAll, TookFirst}
-use Rattle.pim_io.specs.declared.limits.TheConstants.{MAX_INPUT}
 use Rattle.pim_isa.specs.Programs.{ProgramView}
 use Rattle.pim_isa.specs.Results.{load}
 use Rattle.pim_isa.specs.declared.target.Fill.{Fill}
-use Rattle.pim_vectors.specs.Lines.{line_len, lines}
+use Rattle.pim_vectors.specs.Lines.{lines}
 use Rattle.pim_vectors.specs.declared.limits.TheConstants.{MAX_LINES}
-use Rattle.pim_top.specs.Judged.{behind_lines, is_vector, judged_lines, last_piece}
+use Rattle.pim_top.specs.Judged.{Halts, behind_lines, is_vector, judged_lines}
 use Rattle.pim_top.specs.declared.judgement.Judgement.TheVariants.{Command, TooManyLines, Vector}
 use Rattle.pim_top.specs.declared.refusal.Refusal.{Refusal}
 use Rattle.pim_top.specs.declared.refusal.Refusal.TheVariants.{Judged}
-use Rattle.std.specs.Prelude.{◌<◌, ◌≤◌}
 
 -- ---- what is written
 -- a bit as a character
@@ -132,16 +130,10 @@ pub record DebuggedPart (p : ProgramView) (fill : Fill) (bytes : List ℕ) (befo
   pub ran : RanFront p fill bytes text
   pub took : TookFirst before now text
 
--- the source failed: before that it gave lines that don't end them, and of the next line and of all bytes too few to judge them;
--- the output took all that is written for those lines
+-- the source failed behind lines that don't end them; the output took all that is written for those lines
 pub record DebuggedShort (p : ProgramView) (fill : Fill) (bytes rest : List ℕ) (before now : Option (List ℕ)) : Type 0 where
   pub front : List ℕ
-  pub held : List ℕ
-  pub cut : bytes ≡ front ++ (held ++ rest)
-  pub whole : (last_piece front ≡ []) ⊎ (held ++ rest ≡ [])
-  pub waits : line_len held ≡ length held
-  pub short : length held < longest_of p + 2
-  pub within : length front + length held ≤ MAX_INPUT
+  pub halts : Halts (longest_of p) bytes rest front
   pub text : List ℕ
   pub session : Option SessionView
   pub runs : Runs p fill 0 None (lines front) text session

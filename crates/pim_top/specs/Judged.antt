@@ -1,9 +1,9 @@
 -- Which lines of an input are judged, and which of them fit.
-use Rattle.std.specs.Prelude.{ℕ, ◌+◌, ◌-◌, ◌==◌, nat_le, nat_lt, List, [], ◌∷◌, ◌++◌, length, take, Bool, if◌then◌else◌, Option, None, Some}
+use Rattle.std.specs.Prelude.{◌≡◌, ◌⊎◌, ◌<◌, ◌≤◌, ℕ, ◌+◌, ◌-◌, ◌==◌, nat_le, nat_lt, List, [], ◌∷◌, ◌++◌, length, take, Bool, if◌then◌else◌, Option, None, Some}
 use Rattle.std.specs.Prelude.{◌&&◌, ◌||◌}
 use Rattle.std.specs.List.{list_all}
 use Rattle.pim_io.specs.Lines.{is_newline}
-use Rattle.pim_vectors.specs.Lines.{lines}
+use Rattle.pim_vectors.specs.Lines.{line_len, lines}
 use Rattle.pim_vectors.specs.declared.limits.TheConstants.{MAX_LINES}
 use Rattle.pim_top.specs.declared.judgement.Judgement.TheVariants.{TooManyLines, Vector}
 use Rattle.pim_io.specs.declared.limits.TheConstants.{MAX_INPUT}
@@ -41,6 +41,16 @@ judged_lines width bytes = judged_within MAX_INPUT width bytes
 -- what is said behind all of them: nothing, or that the input has too many bytes
 abbrev pub behind_lines : List ℕ → Option Refusal
 behind_lines bytes = if nat_le (length bytes) MAX_INPUT then None else Some (TooLong Input)
+
+-- the source failed: before that it gave whole lines, which are the front, and of the next line, of so many bytes at most, and of
+-- all bytes it gave too few to judge them
+pub record Halts (longest : ℕ) (bytes rest front : List ℕ) : Type 0 where
+  pub held : List ℕ
+  pub cut : bytes ≡ front ++ (held ++ rest)
+  pub whole : (last_piece front ≡ []) ⊎ (held ++ rest ≡ [])
+  pub waits : line_len held ≡ length held
+  pub short : length held < longest + 2
+  pub within : length front + length held ≤ MAX_INPUT
 
 -- a line has so many bytes, each of them the character 0 or 1
 abbrev pub is_vector : ℕ → List ℕ → Bool

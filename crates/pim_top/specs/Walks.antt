@@ -1,13 +1,12 @@
 -- How a walk over the lines of an input ends, which executes each line as a row and writes a tile of results at a time.
-use Rattle.std.specs.Prelude.{◌≡◌, ◌⊎◌, ℕ, ◌+◌, ◌-◌, ◌%◌, ◌<◌, ◌≤◌, Bool, List, [], ◌++◌, length, map, take, Option, None, Some, Result, Ok, Err}
+use Rattle.std.specs.Prelude.{◌≡◌, ℕ, ◌-◌, ◌%◌, ◌≤◌, Bool, List, [], ◌++◌, length, map, take, Option, None, Some, Result, Ok, Err}
 use Rattle.pim_io.specs.Bits.{bits_of}
 use Rattle.pim_io.specs.Outside.{Rose, Told, TookAll, TookFirst}
 use Rattle.pim_batch.specs.Runners.{Runner, results}
-use Rattle.pim_vectors.specs.Lines.{line_len, lines}
-use Rattle.pim_top.specs.Judged.{first_refusal, fitting_lines, input_refusal, last_piece}
+use Rattle.pim_vectors.specs.Lines.{lines}
+use Rattle.pim_top.specs.Judged.{Halts, first_refusal, fitting_lines, input_refusal}
 use Rattle.pim_top.specs.Streams.{Stream}
 use Rattle.pim_top.specs.declared.judgement.Judgement.TheVariants.{TooManyLines, Vector}
-use Rattle.pim_io.specs.declared.limits.TheConstants.{MAX_INPUT}
 use Rattle.pim_top.specs.declared.refusal.Origin.TheVariants.{Input}
 use Rattle.pim_top.specs.declared.refusal.Refusal.{Refusal}
 use Rattle.pim_top.specs.declared.refusal.Refusal.TheVariants.{Judged, ReadFault, TooLong, WriteFault}
@@ -35,16 +34,10 @@ pub record RanTo (runner : Runner) (bytes : List ℕ) (before now : Option (List
   pub refused : input_refusal runner.width bytes ≡ Some r
   pub took : TookAll before now (tiles_of runner (fitting_lines runner.width bytes))
 
--- the source failed: before that it gave lines that all fit, and of the next line and of all bytes too few to refuse them; the
--- output took the results of the full tiles of those lines
+-- the source failed behind lines that all fit; the output took the results of the full tiles of those lines
 pub record RanShort (runner : Runner) (bytes rest : List ℕ) (before now : Option (List ℕ)) : Type 0 where
   pub front : List ℕ
-  pub held : List ℕ
-  pub cut : bytes ≡ front ++ (held ++ rest)
-  pub whole : (last_piece front ≡ []) ⊎ (held ++ rest ≡ [])
-  pub waits : line_len held ≡ length held
-  pub short : length held < runner.width + 2
-  pub within : length front + length held ≤ MAX_INPUT
+  pub halts : Halts runner.width bytes rest front
   pub fit : first_refusal runner.width 0 None (lines front) ≡ None
   pub took : TookAll before now (tiles_of runner (lines front))
 

@@ -1,14 +1,14 @@
 -- Inner: where a walk over the lines of an input stands, and how it goes on.
-use Rattle.std.specs.Prelude.{◌≡◌, ◌⊎◌, ℕ, ◌+◌, ◌*◌, ◌<◌, ◌≤◌, Bool, true, false, List, [], ◌∷◌, ◌++◌, length, Option, None, Some}
+use Rattle.std.specs.Prelude.{◌≡◌, ◌⊎◌, ℕ, ◌+◌, ◌*◌, ◌≤◌, Bool, true, false, List, [], ◌∷◌, ◌++◌, length, Option, None, Some}
 use Rattle.pim_batch.specs.Runners.{Runner, results}
 use Rattle.pim_io.specs.Bits.{bits_of}
 use Rattle.pim_io.specs.Outside.{Rose, TookAll}
-use Rattle.pim_vectors.specs.Lines.{line_len, lines}
+use Rattle.pim_vectors.specs.Lines.{lines}
 use Rattle.pim_vectors.specs.Next.{LinesView}
 use Rattle.pim_vectors.specs.declared.fault.LinesFault.{LinesFault}
 use Rattle.pim_vectors.specs.declared.fault.LinesFault.TheVariants as fault
 use Rattle.pim_vectors.specs.declared.limits.TheConstants.{MAX_LINES}
-use Rattle.pim_top.specs.Judged.{first_refusal, fitting, fitting_lines, input_refusal, last_piece}
+use Rattle.pim_top.specs.Judged.{Halts, first_refusal, fitting, fitting_lines, input_refusal, last_piece}
 use Rattle.pim_top.specs.Walks.{RanInPart, RanShort, RanTo, RanWhole, rows_of}
 use Rattle.pim_top.specs.declared.judgement.Judgement.TheVariants as judgement
 use Rattle.pim_io.specs.declared.limits.TheConstants.{MAX_INPUT}
@@ -53,15 +53,6 @@ pub record IsEnd (width : ℕ) (bytes rest front : List ℕ) : Type 0 where
 abbrev pub Goes : Bool → ℕ → List ℕ → List ℕ → List ℕ → List (List Bool) → LinesView → List (List Bool) → Type 0
 Goes true width bytes rest front old l rows = TakesUp width bytes rest front old l rows
 Goes false width bytes rest front old l rows = IsEnd width bytes rest front × (rows ≡ old)
-
--- the source failed before it was known what the next line is
-pub record Halts (width : ℕ) (bytes rest front : List ℕ) : Type 0 where
-  pub held : List ℕ
-  pub cut : bytes ≡ front ++ (held ++ rest)
-  pub whole : (last_piece front ≡ []) ⊎ (held ++ rest ≡ [])
-  pub waits : line_len held ≡ length held
-  pub short : length held < width + 2
-  pub within : length front + length held ≤ MAX_INPUT
 
 -- the line behind those that were handed out is refused
 pub record IsRefusedHere (width : ℕ) (bytes front : List ℕ) (r : Refusal) : Type 0 where

@@ -29,7 +29,7 @@ use Rattle.pim_top.specs.declared.refusal.Refusal.{Refusal}
 use Rattle.pim_top.specs.declared.refusal.Refusal.TheVariants as refusal
 use Rattle.pim_top.specs.inner.Sessions.{DebugStops, DebugsOn, IsDebugging, command_refusal, debug_refusal, is_quit}
 use Rattle.pim_top.specs.inner.Standing.{first_line}
-use Rattle.pim_top.proofs.LineStates.{Says, StandsNext, judged-front, line-more, line-next, long-next, many-next, none-next, over-next}
+use Rattle.pim_top.proofs.LineStates.{Says, StandsNext, halts-next, judged-front, line-more, line-next, long-next, many-next, none-next, over-next}
 use Rattle.pim_top.proofs.WalkSteps.{then-first, took-both}
 
 -- ---- one line more
@@ -233,16 +233,9 @@ pub input-stops : (p : ProgramView) (fill : Fill) (bytes left rest : List ℕ) (
     (f ≢ faults.Fault → Says l left (Err f)) → DebugStops p fill bytes rest before taken (debug_refusal session f)
 input-stops p fill bytes left rest before taken l new session faults.Fault h kept place waits said =
     let w = waits refl in
-    let k = kept refl in
-    let q = place refl in
     record {
       front = h.front;
-      held = new.held;
-      cut = h.place.cut ∙ ap (λ (r : List ℕ). h.front ++ r) (sym k);
-      whole = elim h.place.whole [ inl e ↦ inl e | inr e ↦ inr (k ∙ e) ];
-      waits = w.0;
-      short = w.1;
-      within = omega (arith, w.2, q, ap length k, h.place.place);
+      halts = halts-next (longest_of p) bytes left rest h.front l new h.place (kept refl) (place refl) w.0 w.1 w.2;
       text = h.text;
       session = session;
       runs = h.runs;
