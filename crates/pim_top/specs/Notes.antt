@@ -55,6 +55,10 @@ large word = codes "too large: " ++ word
 abbrev pub no_memory_text : List ℕ
 no_memory_text = codes "no memory"
 
+-- that there are too few cells, and how many are needed
+abbrev pub needed_text : ℕ → List ℕ
+needed_text needed = codes "too few cells: needed " ++ decimal needed
+
 -- labels, each after a space
 abbrev pub spaced : List (List ℕ) → List ℕ
 spaced [] = []
@@ -108,7 +112,7 @@ netlist_text (Blif fault) = blif_text fault
 
 -- why a netlist is not compiled
 abbrev pub compiler_text : Compiler → List ℕ
-compiler_text (compiler.TooFewCells needed) = codes "too few cells: needed " ++ decimal needed
+compiler_text (compiler.TooFewCells needed) = needed_text needed
 compiler_text compiler.TooLarge = large (codes "nodes")
 compiler_text compiler.NoMemory = no_memory_text
 
@@ -173,7 +177,7 @@ tree_text tree.NoMemory = no_memory_text
 
 -- why a netlist is not compiled to `false` and `imp`
 abbrev pub imply_text : ImplyRefusal → List ℕ
-imply_text (imply.TooFewCells needed) = codes "too few cells: needed " ++ decimal needed
+imply_text (imply.TooFewCells needed) = needed_text needed
 imply_text imply.TooLarge = large (codes "nodes")
 imply_text imply.NoMemory = no_memory_text
 
@@ -203,7 +207,7 @@ turn_text line = bad (codes "turn line " ++ decimal line)
 -- why programs don't share a row; a turn has a line for itself, and the first line has the number 1
 abbrev pub share_text : ShareFault → List ℕ
 share_text (share.OtherTarget part) = bad (part_words (Some part) ++ codes "other target")
-share_text (share.TooFewCells needed) = codes "too few cells: needed " ++ decimal needed
+share_text (share.TooFewCells needed) = needed_text needed
 share_text (share.Turn turn) = turn_text (turn + 1)
 share_text (share.Missing part) = bad (codes "turns missing part " ++ decimal part)
 share_text share.NoMemory = no_memory_text

@@ -2,7 +2,7 @@
 ghost use Rattle.std.specs.Prelude.{◌≡◌, ◌++◌, OnOk, codes, decimal};
 ghost use Rattle.pim_io.specs.Outside.{Wrote};
 ghost use Rattle.pim_top.specs.Calls.{IsNoted};
-ghost use Rattle.pim_top.specs.Notes.{aiger_text, asm_text, bad, blif_line, blif_text, compiler_text, debug_line, debug_text, file_text, imply_file_text, imply_invalid_text, imply_text, instruction_text, invalid_text, judgement_text, kind_word, large, many_text, net_text, note, origin_word, part_words, placed, prove_text, refusal_text, share_text, spaced, tree_text, turn_text, unequal_text, unset_text};
+ghost use Rattle.pim_top.specs.Notes.{aiger_text, asm_text, bad, blif_line, blif_text, compiler_text, debug_line, debug_text, file_text, imply_file_text, imply_invalid_text, imply_text, instruction_text, invalid_text, judgement_text, kind_word, large, many_text, needed_text, net_text, note, origin_word, part_words, placed, prove_text, refusal_text, share_text, spaced, tree_text, turn_text, unequal_text, unset_text};
 ghost use Rattle.pim_top.specs.Streams.{stream};
 ghost use Rattle.pim_top.specs.inner.Writing.{WroteLine};
 
@@ -79,9 +79,7 @@ fn write_compiler<E: Sink>(notes: &mut E, refusal: pim_compile::Refusal) -> Resu
     ensures { WroteLine E.taken E.faults notes.old notes.new (compiler_text refusal) result }
 {
     match refusal {
-        pim_compile::Refusal::TooFewCells { needed } => {
-            write_number(notes, b"too few cells: needed ", needed)
-        }
+        pim_compile::Refusal::TooFewCells { needed } => write_needed(notes, needed as u64),
         pim_compile::Refusal::TooLarge => write_large(notes, b"nodes"),
         pim_compile::Refusal::NoMemory => write_text(notes, b"no memory"),
     }
@@ -308,9 +306,7 @@ fn write_imply<E: Sink>(notes: &mut E, refusal: ImplyRefusal) -> Result<(), Sink
     ensures { WroteLine E.taken E.faults notes.old notes.new (imply_text refusal) result }
 {
     match refusal {
-        ImplyRefusal::TooFewCells { needed } => {
-            write_number(notes, b"too few cells: needed ", needed)
-        }
+        ImplyRefusal::TooFewCells { needed } => write_needed(notes, needed as u64),
         ImplyRefusal::TooLarge => write_large(notes, b"nodes"),
         ImplyRefusal::NoMemory => write_text(notes, b"no memory"),
     }
@@ -372,15 +368,15 @@ fn write_turn<E: Sink>(notes: &mut E, line: u64) -> Result<(), SinkFault>
     write_bad_two(notes, b"turn line ", digits.format(line).as_bytes())
 }
 
-/// Writes how many cells are needed.
-fn write_needed<E: Sink>(notes: &mut E, cells: u64) -> Result<(), SinkFault>
-    ensures { WroteLine E.taken E.faults notes.old notes.new (codes "too few cells: needed " ++ decimal cells) result }
+/// Writes that there are too few cells, and how many are needed.
+fn write_needed<E: Sink>(notes: &mut E, needed: u64) -> Result<(), SinkFault>
+    ensures { WroteLine E.taken E.faults notes.old notes.new (needed_text needed) result }
 {
     let mut digits = Buffer::new();
     write_two(
         notes,
         b"too few cells: needed ",
-        digits.format(cells).as_bytes(),
+        digits.format(needed).as_bytes(),
     )
 }
 
@@ -509,14 +505,6 @@ fn write_text<E: Sink>(notes: &mut E, text: &[u8]) -> Result<(), SinkFault>
     ensures { WroteLine E.taken E.faults notes.old notes.new text.now result }
 {
     write_pieces(notes, &[b"pim: ".as_slice(), text, b"\n"])
-}
-
-/// Writes a text with a number behind it.
-fn write_number<E: Sink>(notes: &mut E, text: &[u8], number: u32) -> Result<(), SinkFault>
-    ensures { WroteLine E.taken E.faults notes.old notes.new (text.now ++ decimal number) result }
-{
-    let mut digits = Buffer::new();
-    write_two(notes, text, digits.format(number).as_bytes())
 }
 
 /// Writes two texts, one behind the other.
