@@ -1,5 +1,5 @@
 -- What the lines of a debugger's input come to: the first one is the vector of a session, and each further one is a command of it.
-use Rattle.std.specs.Prelude.{◌≡◌, ℕ, ◌+◌, ◌==◌, nat_lt, Bool, true, false, List, [], ◌∷◌, ◌++◌, length, if◌then◌else◌, codes, decimal, Option, None, Some}
+use Rattle.std.specs.Prelude.{◌≡◌, ℕ, ◌+◌, ◌==◌, nat_lt, Bool, true, false, List, [], ◌∷◌, ◌++◌, length, if◌then◌else◌, Option, None, Some}
 use Rattle.pim_debug.specs.Answers.{AnswersLine, refusal_of}
 use Rattle.pim_debug.specs.Commands.{command_of}
 use Rattle.pim_debug.specs.States.{SessionView, State}
@@ -8,7 +8,6 @@ use Rattle.pim_debug.specs.declared.command.Command.TheVariants as asked
 use Rattle.pim_debug.specs.declared.fault.DebugFault.{DebugFault}
 use Rattle.pim_debug.specs.declared.fault.DebugFault.TheVariants as fault
 use Rattle.pim_debug.specs.declared.reply.Reply.{Reply}
-use Rattle.pim_debug.specs.declared.reply.Reply.TheVariants as reply
 use Rattle.pim_io.specs.Bits.{bits_of}
 use Rattle.pim_io.specs.Outside.{TookAll, TookFirst}
 use Rattle.pim_isa.specs.Programs.{ProgramView}
@@ -17,30 +16,10 @@ use Rattle.pim_isa.specs.declared.target.Fill.{Fill}
 use Rattle.pim_vectors.specs.Lines.{lines}
 use Rattle.pim_vectors.specs.declared.limits.TheConstants.{MAX_LINES}
 use Rattle.pim_top.specs.Judged.{Halts, behind_lines, is_vector, judged_lines}
+use Rattle.pim_top.specs.commands.Replies.{reply_line}
 use Rattle.pim_top.specs.declared.judgement.Judgement.TheVariants.{Command, TooManyLines, Vector}
 use Rattle.pim_top.specs.declared.refusal.Refusal.{Refusal}
 use Rattle.pim_top.specs.declared.refusal.Refusal.TheVariants.{Judged}
-
--- ---- what is written
--- a bit as a character
-abbrev pub digit_of : Bool → ℕ
-digit_of false = 48
-digit_of true = 49
-
--- bits as characters, in order
-abbrev pub digits_of : List Bool → List ℕ
-digits_of [] = []
-digits_of (b ∷ bits) = digit_of b ∷ digits_of bits
-
--- the line that a reply is written as; nothing for a line without a word, and for the end
-abbrev pub reply_line : Reply → List ℕ
-reply_line reply.Nothing = []
-reply_line (reply.At k) = (codes "at " ++ decimal k) ++ codes "\n"
-reply_line (reply.Break n k) = (((codes "break " ++ decimal n) ++ codes " at ") ++ decimal k) ++ codes "\n"
-reply_line (reply.Deleted n) = (codes "deleted " ++ decimal n) ++ codes "\n"
-reply_line (reply.Cell c b) = (((codes "cell " ++ decimal c) ++ codes " ") ++ digit_of b ∷ []) ++ codes "\n"
-reply_line (reply.Show bits) = digits_of bits ++ codes "\n"
-reply_line reply.Quit = []
 
 -- ---- one line
 -- the most bytes of a line: as many as there are inputs, and 64 at least

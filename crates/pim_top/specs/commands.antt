@@ -8,5 +8,6 @@ pub mod Imply
 pub mod Implyrun
 pub mod List
 pub mod Prove
+pub mod Replies
 pub mod Run
 pub mod Share

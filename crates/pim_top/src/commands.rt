@@ -1,4 +1,4 @@
-//! The commands, one file each.
+//! The commands, one file each, and the replies of `debug`.
 pub mod asm;
 pub mod bench;
 pub mod compile;
@@ -9,5 +9,6 @@ pub mod imply;
 pub mod implyrun;
 pub mod list;
 pub mod prove;
+pub mod reply;
 pub mod run;
 pub mod share;

@@ -1,25 +1,26 @@
 //! `debug`: a program is executed forward and back, as the lines of the input ask.
-ghost use Rattle.std.specs.Prelude.{◌≡◌, ◌+◌, ◌≤◌, ◌++◌, ◌∷◌, [], ℕ, not, length, codes, decimal, List, Option, None, Some, true, IfErr, IfOk, OnOk, OnErr};
+ghost use Rattle.std.specs.Prelude.{◌≡◌, ℕ, not, length, List, Option, None, Some, true, IfErr, IfOk, OnOk};
 ghost use Rattle.pim_io.specs.Bits.{bits_of};
 ghost use Rattle.pim_io.specs.Outside.{Told, TookAll};
 ghost use Rattle.pim_isa.specs.declared.target.Fill.{Fill};
 ghost use Rattle.pim_words.specs.declared.command.Command.TheVariants as commands;
 ghost use Rattle.pim_debug.specs.States.{SessionView};
-ghost use Rattle.pim_top.specs.Debugging.{DebuggedAll, digit_of, digits_of, longest_of, reply_line, session_of};
+ghost use Rattle.pim_top.specs.Debugging.{DebuggedAll, longest_of, session_of};
 ghost use Rattle.pim_top.specs.Judged.{is_vector};
 ghost use Rattle.pim_top.specs.Streams.{seen, stream};
 ghost use Rattle.pim_top.specs.commands.Debug.{DebugEnds};
+ghost use Rattle.pim_top.specs.commands.Replies.{reply_line};
 ghost use Rattle.pim_top.specs.inner.Faultless.{IsComplete};
 ghost use Rattle.pim_top.specs.inner.Sessions.{DebugStops, DebugsOn, IsDebugging, IsOfDebug, IsOfInput, IsUnwrittenReply, command_refusal, debug_refusal, is_quit};
 ghost use Rattle.pim_top.specs.inner.Standing.{IsFurther, first_line};
 
+use crate::commands::reply::{is_quit, write_reply};
 use crate::commands::run::fill_of;
 use crate::judgement::Judgement;
 use crate::program::load_program;
 use crate::refusal::{Origin, Refusal};
-use itoa::Buffer;
 use pim_debug::{DebugFault, Reply, Session};
-use pim_io::{NoMemory, Sink, Source, write_all};
+use pim_io::{NoMemory, Sink, Source};
 use pim_isa::{Fill, Program};
 use pim_vectors::{Lines, LinesFault, vector_fits};
 use pim_words::FillWord;
@@ -230,95 +231,4 @@ fn of_lines(fault: LinesFault) -> Refusal
         LinesFault::TooMany => Refusal::Judged(Judgement::TooManyLines),
         LinesFault::TooLong => Refusal::TooLong(Origin::Input),
     }
-}
-
-/// Whether a reply ends the session.
-fn is_quit(reply: &Reply) -> bool
-    ensures { result ≡ is_quit reply.now }
-{
-    matches!(reply, Reply::Quit)
-}
-
-/// Writes the line of a reply, by one piece.
-fn write_reply<K: Sink>(alloc: Global, output: &mut K, reply: &Reply) -> Result<(), Refusal>
-    ensures done { OnOk result (TookAll (K.taken output.old) (K.taken output.new) (reply_line reply.now)) }
-    ensures steady { OnOk result (K.faults output.new ≡ K.faults output.old) }
-    ensures refused { IfErr result (IsUnwrittenReply (reply_line reply.now) (K.taken output.old) (K.taken output.new) (K.faults output.old) (K.faults output.new)) }
-{
-    let text = text_of(alloc, reply)?;
-    write_all(output, &text)?;
-    Ok(())
-}
-
-/// The line of a reply.
-fn text_of(alloc: Global, reply: &Reply) -> Result<Vec<u8>, NoMemory>
-    ensures { IfOk result (λ text. text.items ≡ reply_line reply.now) }
-{
-    match reply {
-        Reply::Nothing | Reply::Quit => Ok(Vec::new(alloc)),
-        Reply::At(at) => numbered(alloc, b"at ", *at),
-        Reply::Break { number, at } => break_text(alloc, *number, *at),
-        Reply::Deleted(number) => numbered(alloc, b"deleted ", *number),
-        Reply::Cell(cell, bit) => cell_text(alloc, *cell, *bit),
-        Reply::Show(bits) => bits_text(alloc, bits.list()),
-    }
-}
-
-/// A line of a text and a number.
-fn numbered(alloc: Global, text: &[u8], number: u32) -> Result<Vec<u8>, NoMemory>
-    ensures { IfOk result (λ line. line.items ≡ (text.now ++ decimal number) ++ codes "\n") }
-{
-    let mut line = Vec::new(alloc);
-    let mut digits = Buffer::new();
-    line.extend_from_slice(text)?;
-    line.extend_from_slice(digits.format(number).as_bytes())?;
-    line.push(b'\n')?;
-    Ok(line)
-}
-
-/// The line that tells a breakpoint.
-fn break_text(alloc: Global, number: u64, at: u32) -> Result<Vec<u8>, NoMemory>
-    ensures { IfOk result (λ line. line.items ≡ (((codes "break " ++ decimal number) ++ codes " at ") ++ decimal at) ++ codes "\n") }
-{
-    let mut line = Vec::new(alloc);
-    let mut digits = Buffer::new();
-    line.extend_from_slice(b"break ")?;
-    line.extend_from_slice(digits.format(number).as_bytes())?;
-    line.extend_from_slice(b" at ")?;
-    line.extend_from_slice(digits.format(at).as_bytes())?;
-    line.push(b'\n')?;
-    Ok(line)
-}
-
-/// The line that tells a cell.
-fn cell_text(alloc: Global, cell: u32, bit: bool) -> Result<Vec<u8>, NoMemory>
-    ensures { IfOk result (λ line. line.items ≡ (((codes "cell " ++ decimal cell) ++ codes " ") ++ digit_of bit ∷ []) ++ codes "\n") }
-{
-    let mut line = Vec::new(alloc);
-    let mut digits = Buffer::new();
-    line.extend_from_slice(b"cell ")?;
-    line.extend_from_slice(digits.format(cell).as_bytes())?;
-    line.extend_from_slice(b" ")?;
-    line.push(digit_of(bit))?;
-    line.push(b'\n')?;
-    Ok(line)
-}
-
-/// The line of bits.
-fn bits_text(alloc: Global, bits: &[bool]) -> Result<Vec<u8>, NoMemory>
-    ensures { IfOk result (λ line. line.items ≡ digits_of bits.now ++ codes "\n") }
-{
-    let mut line = Vec::new(alloc);
-    for bit in bits {
-        line.push(digit_of(*bit))?;
-    }
-    line.push(b'\n')?;
-    Ok(line)
-}
-
-/// A bit as a character.
-fn digit_of(bit: bool) -> u8
-    ensures { result ≡ digit_of bit }
-{
-    if bit { b'1' } else { b'0' }
 }

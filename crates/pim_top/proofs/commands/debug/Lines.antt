@@ -21,12 +21,13 @@ use Rattle.pim_vectors.specs.Next.{LinesView}
 use Rattle.pim_vectors.specs.declared.fault.LinesFault.{LinesFault}
 use Rattle.pim_vectors.specs.declared.fault.LinesFault.TheVariants as faults
 use Rattle.pim_vectors.specs.declared.limits.TheConstants.{MAX_LINES}
-use Rattle.pim_top.specs.Debugging.{DebuggedAll, DebuggedFront, DebuggedPart, Runs, Takes, command_end, last_end, line_end, longest_of, reply_line, session_of, words_end}
+use Rattle.pim_top.specs.Debugging.{DebuggedAll, DebuggedFront, DebuggedPart, Runs, Takes, command_end, last_end, line_end, longest_of, session_of, words_end}
 use Rattle.pim_top.specs.Judged.{behind_lines, is_vector, judged_lines}
 use Rattle.pim_top.specs.declared.judgement.Judgement.TheVariants as judgement
 use Rattle.pim_top.specs.declared.refusal.Origin.TheVariants as origin
 use Rattle.pim_top.specs.declared.refusal.Refusal.{Refusal}
 use Rattle.pim_top.specs.declared.refusal.Refusal.TheVariants as refusal
+use Rattle.pim_top.specs.commands.Replies.{reply_line}
 use Rattle.pim_top.specs.inner.Sessions.{DebugStops, DebugsOn, IsDebugging, command_refusal, debug_refusal, is_quit}
 use Rattle.pim_top.specs.inner.Standing.{first_line}
 use Rattle.pim_top.proofs.LineStates.{Says, StandsNext, halts-next, judged-front, line-more, line-next, long-next, many-next, none-next, over-next}

@@ -17,11 +17,12 @@ use Rattle.pim_vectors.specs.Next.{IsAfter, LinesView, next_of}
 use Rattle.pim_vectors.specs.declared.fault.LinesFault.{LinesFault}
 use Rattle.pim_vectors.specs.declared.fault.LinesFault.TheVariants as faults
 use Rattle.pim_io.specs.declared.limits.TheConstants.{MAX_INPUT}
-use Rattle.pim_top.specs.Debugging.{DebuggedAll, DebuggedFront, DebuggedPart, longest_of, reply_line, session_of}
+use Rattle.pim_top.specs.Debugging.{DebuggedAll, DebuggedFront, DebuggedPart, longest_of, session_of}
 use Rattle.pim_top.specs.Judged.{is_vector}
 use Rattle.pim_top.specs.declared.judgement.Judgement.TheVariants as judgement
 use Rattle.pim_top.specs.declared.refusal.Refusal.{Refusal}
 use Rattle.pim_top.specs.declared.refusal.Refusal.TheVariants as refusal
+use Rattle.pim_top.specs.commands.Replies.{reply_line}
 use Rattle.pim_top.specs.inner.Sessions.{DebugStops, DebugsOn, IsDebugging, IsOfDebug, IsOfInput, IsUnwrittenReply, command_refusal, debug_refusal, is_quit}
 use Rattle.pim_top.specs.inner.Standing.{first_line}
 use Rattle.pim_top.proofs.WalkStates.{told-both, told-map}
