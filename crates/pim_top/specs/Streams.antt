@@ -19,6 +19,7 @@ pub record Seen : Type 0 where
   pub input : Stream
   pub output : Stream
 
+-- these three streams, as those of a call
 abbrev pub seen : Stream → Stream → Stream → Seen
 seen program input output = record { program = program; input = input; output = output }
 

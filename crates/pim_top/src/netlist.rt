@@ -9,6 +9,7 @@ ghost use Rattle.pim_top.specs.declared.status.Status.TheVariants as statuses;
 
 use pim_aiger::{AigerFault, is_aiger};
 use pim_blif::BlifFault;
+use pim_io::MAX_PROGRAM;
 use pim_net::Net;
 use std::alloc::Global;
 
@@ -22,7 +23,7 @@ pub enum NetlistFault {
 /// The netlist of bytes, or their first fault: they are AIGER where they begin with one of its tags, and otherwise BLIF.
 #[tactic(auto, unfolding(crate::specs::Netlists::net_of))]
 pub fn read(alloc: Global, bytes: &[u8]) -> Result<Net, NetlistFault>
-    requires { length bytes.now ≤ 536870912 }
+    requires { length bytes.now ≤ MAX_PROGRAM }
     ensures net { IfOk result (λ net. net_of bytes.now ≡ Ok (draft_of net)) }
     ensures fault { IfErr result (λ fault. (netlist_status fault ≡ statuses.NoMemory) ⊎ (net_of bytes.now ≡ Err fault)) }
 {

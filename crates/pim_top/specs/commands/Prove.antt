@@ -1,11 +1,12 @@
 -- What `prove` says of a program file and a netlist.
-use Rattle.std.specs.Prelude.{◌≡◌, ◌≤◌, ◌^◌, ℕ, List, ◌++◌, None, Some, Result, Ok, Err, codes, decimal, length}
+use Rattle.std.specs.Prelude.{◌≡◌, ◌≤◌, ◌^◌, ℕ, List, None, Some, Result, Ok, Err, codes, length}
 use Rattle.pim_io.specs.declared.limits.TheConstants.{MAX_INPUT, MAX_PROGRAM}
 use Rattle.pim_isa.specs.Programs.{ProgramView}
 use Rattle.pim_net.specs.Netlist.{DraftView, NetView, draft_of}
 use Rattle.pim_net.specs.WellFormed.{IsNet}
 use Rattle.pim_io.specs.Bits.{line_of}
 use Rattle.pim_prove.specs.Vectors.{digits}
+use Rattle.pim_text.specs.Text.{counted_text}
 use Rattle.pim_prove.specs.Proving.{IsEqual, IsFirstDifference, refusal_of}
 use Rattle.pim_top.specs.Netlists.{net_of}
 use Rattle.pim_top.specs.Programs.{program_of}
@@ -23,7 +24,7 @@ pub record AreCompared (file input : List ℕ) (P : ProgramView → NetView → 
 
 -- the line that is written where all vectors agree, with their number
 abbrev pub equal_line : NetView → List ℕ
-equal_line net = codes "equal " ++ (decimal (2 ^ length net.inputs) ++ codes "\n")
+equal_line net = counted_text (codes "equal ") (2 ^ length net.inputs)
 
 -- the program is compared with the netlist, and gives its outputs for every vector, whatever the other cells hold; this is written
 pub record AgreesWith (written : List ℕ) (program : ProgramView) (net : NetView) : Type 0 where

@@ -1,9 +1,9 @@
 //! `prove`: a program is compared with a netlist on all vectors.
-ghost use Rattle.std.specs.Prelude.{◌≡◌, ◌⊎◌, ◌≤◌, ◌^◌, ◌++◌, ℕ, List, Ok, Err, IfErr, IfOk, codes, decimal, length};
+ghost use Rattle.std.specs.Prelude.{◌≡◌, ◌⊎◌, ◌≤◌, ℕ, List, Ok, Err, IfErr, IfOk, length};
 ghost use Rattle.pim_words.specs.declared.command.Command.TheVariants as commands;
 ghost use Rattle.pim_top.specs.Programs.{program_of};
 ghost use Rattle.pim_top.specs.Statuses.{IsNoMemory};
-ghost use Rattle.pim_top.specs.commands.Prove.{ProveAnswers};
+ghost use Rattle.pim_top.specs.commands.Prove.{ProveAnswers, equal_line};
 
 use crate::judgement::Judgement;
 use crate::netlist;
@@ -11,11 +11,11 @@ use crate::program::program_of;
 use crate::refusal::Origin;
 use crate::vector::VectorText;
 use crate::whole::WholeText;
-use itoa::Buffer;
 use pim_io::{MAX_INPUT, MAX_PROGRAM, NoMemory};
 use pim_isa::Program;
 use pim_net::Net;
-use pim_prove::{Verdict, prove};
+use pim_prove::{MAX_PROVE_INPUTS, Verdict, prove};
+use pim_text::Text;
 use std::alloc::Global;
 
 /// `prove`, which has no options.
@@ -72,13 +72,11 @@ fn text_of(alloc: Global, program: &Program, input: &[u8]) -> Result<Vec<u8>, Ju
 
 /// The line that all vectors of a netlist agree.
 fn equal_line(alloc: Global, net: &Net) -> Result<Vec<u8>, NoMemory>
-    requires { length net.now.inputs ≤ 20 }
-    ensures { IfOk result (λ text. text.items ≡ codes "equal " ++ (decimal (2 ^ length net.now.inputs) ++ codes "\n")) }
+    requires { length net.now.inputs ≤ MAX_PROVE_INPUTS }
+    ensures { IfOk result (λ text. text.items ≡ equal_line net.now) }
 {
     let vectors = 2u32.pow(net.inputs().len() as u32);
-    let mut digits = Buffer::new();
-    let mut text = Vec::from_slice(alloc, b"equal ")?;
-    text.extend_from_slice(digits.format(vectors).as_bytes())?;
-    text.push(b'\n')?;
-    Ok(text)
+    let mut text = Text::new(alloc);
+    text.counted(b"equal ", vectors)?;
+    Ok(text.into_bytes())
 }
