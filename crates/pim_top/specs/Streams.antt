@@ -1,6 +1,6 @@
 -- What a call saw of a source or a sink: its bytes, where it tells them, and its count of faults, before and after the call.
 use Rattle.std.specs.Prelude.{◌≡◌, ◌≤◌, ℕ, ◌+◌, List, Option, length}
-use Rattle.pim_io.specs.Outside.{GaveAll, GaveAtMost, GaveFirst, Rose, TookAll, TookFirst}
+use Rattle.pim_io.specs.Outside.{GaveAll, GaveAtMost, GaveFirst, Rose, Told, TookAll, TookFirst}
 
 -- the bytes that are left of a source, or that a sink took
 pub record Stream : Type 0 where
@@ -53,3 +53,22 @@ pub record IsWritten (s : Stream) (text : List ℕ) : Type 0 where
 pub record IsCut (s : Stream) (text : List ℕ) : Type 0 where
   pub took : TookFirst s.before s.now text
   pub rose : Rose s.faults s.faults_now
+
+-- ---- an input and an output that a command reads and writes by turns; of the input's bytes and of those left this holds
+-- neither failed
+pub record AreSteady (i o : Stream) (Ran : List ℕ → List ℕ → Type 0) : Type 0 where
+  pub input : i.faults_now ≡ i.faults
+  pub output : o.faults_now ≡ o.faults
+  pub ran : Told i.before i.now Ran
+
+-- the input failed, and the output did not
+pub record IsUnread (i o : Stream) (Ran : List ℕ → List ℕ → Type 0) : Type 0 where
+  pub input : Rose i.faults i.faults_now
+  pub output : o.faults_now ≡ o.faults
+  pub ran : Told i.before i.now Ran
+
+-- the output failed, and the input did not
+pub record IsUnwritten (i o : Stream) (Ran : List ℕ → List ℕ → Type 0) : Type 0 where
+  pub input : i.faults_now ≡ i.faults
+  pub output : Rose o.faults o.faults_now
+  pub ran : Told i.before i.now Ran

@@ -1,11 +1,11 @@
 -- How a walk over the lines of an input ends, which executes each line as a row and writes a tile of results at a time.
 use Rattle.std.specs.Prelude.{◌≡◌, ℕ, ◌-◌, ◌%◌, ◌≤◌, Bool, List, [], ◌++◌, length, map, take, Option, None, Some, Result, Ok, Err}
 use Rattle.pim_io.specs.Bits.{bits_of}
-use Rattle.pim_io.specs.Outside.{Rose, Told, TookAll, TookFirst}
+use Rattle.pim_io.specs.Outside.{TookAll, TookFirst}
 use Rattle.pim_batch.specs.Runners.{Runner, results}
 use Rattle.pim_vectors.specs.Lines.{lines}
 use Rattle.pim_top.specs.Judged.{Halts, first_refusal, fitting_lines, input_refusal}
-use Rattle.pim_top.specs.Streams.{Stream}
+use Rattle.pim_top.specs.Streams.{AreSteady, IsUnread, IsUnwritten, Stream}
 use Rattle.pim_top.specs.declared.judgement.Judgement.TheVariants.{TooManyLines, Vector}
 use Rattle.pim_top.specs.declared.refusal.Origin.TheVariants.{Input}
 use Rattle.pim_top.specs.declared.refusal.Refusal.{Refusal}
@@ -48,34 +48,14 @@ pub record RanInPart (runner : Runner) (bytes : List ℕ) (before now : Option (
   pub took : TookFirst before now (results runner (rows_of (take count (fitting_lines runner.width bytes))))
 
 -- a line or a limit is refused, and no count of faults rose
-pub record IsStopped (runner : Runner) (i o : Stream) (r : Refusal) : Type 0 where
-  pub input : i.faults_now ≡ i.faults
-  pub output : o.faults_now ≡ o.faults
-  pub ran : Told i.before i.now (λ bytes rest. RanTo runner bytes o.before o.now r)
-
--- all lines were executed, and no count of faults rose
-pub record IsThrough (runner : Runner) (i o : Stream) : Type 0 where
-  pub input : i.faults_now ≡ i.faults
-  pub output : o.faults_now ≡ o.faults
-  pub ran : Told i.before i.now (λ bytes rest. RanWhole runner bytes rest o.before o.now)
-
--- the input failed, and the output did not
-pub record IsUnread (runner : Runner) (i o : Stream) : Type 0 where
-  pub input : Rose i.faults i.faults_now
-  pub output : o.faults_now ≡ o.faults
-  pub ran : Told i.before i.now (λ bytes rest. RanShort runner bytes rest o.before o.now)
-
--- the output failed, and the input did not
-pub record IsUnwritten (runner : Runner) (i o : Stream) : Type 0 where
-  pub input : i.faults_now ≡ i.faults
-  pub output : Rose o.faults o.faults_now
-  pub ran : Told i.before i.now (λ bytes rest. RanInPart runner bytes o.before o.now)
+abbrev pub IsStopped : Runner → Stream → Stream → Refusal → Type 0
+IsStopped runner i o r = AreSteady i o (λ bytes rest. RanTo runner bytes o.before o.now r)
 
 -- how the walk ends: what it answers, what was read, and what the output took
 abbrev pub WalkEnds : {Y : Type 0} → Runner → Stream → Stream → Result Y Refusal → Type 0
-WalkEnds runner i o (Ok y) = IsThrough runner i o
-WalkEnds runner i o (Err (ReadFault Input)) = IsUnread runner i o
-WalkEnds runner i o (Err WriteFault) = IsUnwritten runner i o
+WalkEnds runner i o (Ok y) = AreSteady i o (λ bytes rest. RanWhole runner bytes rest o.before o.now)
+WalkEnds runner i o (Err (ReadFault Input)) = IsUnread i o (λ bytes rest. RanShort runner bytes rest o.before o.now)
+WalkEnds runner i o (Err WriteFault) = IsUnwritten i o (λ bytes rest. RanInPart runner bytes o.before o.now)
 WalkEnds runner i o (Err (TooLong Input)) = IsStopped runner i o (TooLong Input)
 WalkEnds runner i o (Err (Judged (Vector n))) = IsStopped runner i o (Judged (Vector n))
 WalkEnds runner i o (Err (Judged TooManyLines)) = IsStopped runner i o (Judged TooManyLines)

@@ -1,7 +1,6 @@
 -- What `debug` does: it obeys the lines of the input, and writes each reply before it reads the next line.
 use Rattle.std.specs.Prelude.{◌≡◌, ◌⊎◌, ◌≤◌, ℕ, List, length, Option, None, Some, Result, Ok, Err}
 use Rattle.pim_file.specs.BinaryReading.{parse_of}
-use Rattle.pim_io.specs.Outside.{Rose, Told}
 use Rattle.pim_io.specs.declared.limits.TheConstants.{MAX_PROGRAM}
 use Rattle.pim_isa.specs.Programs.{ProgramView}
 use Rattle.pim_isa.specs.declared.target.Fill.{Fill}
@@ -9,7 +8,7 @@ use Rattle.pim_words.specs.declared.command.FillWord.{FillWord}
 use Rattle.pim_top.specs.Debugging.{DebuggedAll, DebuggedFront, DebuggedPart, DebuggedShort, RanAll}
 use Rattle.pim_top.specs.Programs.{program_of}
 use Rattle.pim_top.specs.Rows.{EndsEarly, IsLoaded}
-use Rattle.pim_top.specs.Streams.{Seen, Stream}
+use Rattle.pim_top.specs.Streams.{AreSteady, IsUnread, IsUnwritten, Seen, Stream}
 use Rattle.pim_top.specs.commands.Run.{fill_of}
 use Rattle.pim_top.specs.declared.judgement.Judgement.TheVariants.{Command, TooManyLines, Vector}
 use Rattle.pim_top.specs.declared.refusal.Origin.TheVariants.{Input}
@@ -17,35 +16,15 @@ use Rattle.pim_top.specs.declared.refusal.Refusal.{Refusal}
 use Rattle.pim_top.specs.declared.refusal.Refusal.TheVariants.{Judged, NoMemory, ReadFault, TooLong, WriteFault}
 
 -- the lines came to their end, for this reason, and no count of faults rose
-pub record IsEnded (p : ProgramView) (fill : Fill) (i o : Stream) (ended : Option Refusal) : Type 0 where
-  pub input : i.faults_now ≡ i.faults
-  pub output : o.faults_now ≡ o.faults
-  pub ran : Told i.before i.now (λ bytes rest. DebuggedAll p fill bytes o.before o.now ended)
-
--- memory ran out between two lines, and no count of faults rose
-pub record IsWithout (p : ProgramView) (fill : Fill) (i o : Stream) : Type 0 where
-  pub input : i.faults_now ≡ i.faults
-  pub output : o.faults_now ≡ o.faults
-  pub ran : Told i.before i.now (λ bytes rest. DebuggedFront p fill bytes o.before o.now)
-
--- the input failed, and the output did not
-pub record IsUnread (p : ProgramView) (fill : Fill) (i o : Stream) : Type 0 where
-  pub input : Rose i.faults i.faults_now
-  pub output : o.faults_now ≡ o.faults
-  pub ran : Told i.before i.now (λ bytes rest. DebuggedShort p fill bytes rest o.before o.now)
-
--- the output failed, and the input did not
-pub record IsUnwritten (p : ProgramView) (fill : Fill) (i o : Stream) : Type 0 where
-  pub input : i.faults_now ≡ i.faults
-  pub output : Rose o.faults o.faults_now
-  pub ran : Told i.before i.now (λ bytes rest. DebuggedPart p fill bytes o.before o.now)
+abbrev pub IsEnded : ProgramView → Fill → Stream → Stream → Option Refusal → Type 0
+IsEnded p fill i o ended = AreSteady i o (λ bytes rest. DebuggedAll p fill bytes o.before o.now ended)
 
 -- how the lines of a program that was loaded end
 abbrev pub LinesEnd : {Y : Type 0} → ProgramView → Fill → Stream → Stream → Result Y Refusal → Type 0
 LinesEnd p fill i o (Ok y) = IsEnded p fill i o None
-LinesEnd p fill i o (Err (ReadFault Input)) = IsUnread p fill i o
-LinesEnd p fill i o (Err WriteFault) = IsUnwritten p fill i o
-LinesEnd p fill i o (Err NoMemory) = IsWithout p fill i o
+LinesEnd p fill i o (Err (ReadFault Input)) = IsUnread i o (λ bytes rest. DebuggedShort p fill bytes rest o.before o.now)
+LinesEnd p fill i o (Err WriteFault) = IsUnwritten i o (λ bytes rest. DebuggedPart p fill bytes o.before o.now)
+LinesEnd p fill i o (Err NoMemory) = AreSteady i o (λ bytes rest. DebuggedFront p fill bytes o.before o.now)
 LinesEnd p fill i o (Err (TooLong Input)) = IsEnded p fill i o (Some (TooLong Input))
 LinesEnd p fill i o (Err (Judged (Vector n))) = IsEnded p fill i o (Some (Judged (Vector n)))
 LinesEnd p fill i o (Err (Judged TooManyLines)) = IsEnded p fill i o (Some (Judged TooManyLines))
