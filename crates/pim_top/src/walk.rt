@@ -109,7 +109,7 @@ fn take_up<E: Executor, S: Source>(
 }
 
 /// The refusal that lines come to.
-fn of_lines(fault: LinesFault) -> Refusal
+pub(crate) fn of_lines(fault: LinesFault) -> Refusal
     ensures { result ≡ lines_refusal fault }
 {
     match fault {

@@ -17,7 +17,7 @@ use Rattle.pim_top.specs.declared.judgement.Judgement.TheVariants as judgement
 use Rattle.pim_top.specs.declared.refusal.Origin.TheVariants as origin
 use Rattle.pim_top.specs.declared.refusal.Refusal.{Refusal}
 use Rattle.pim_top.specs.declared.refusal.Refusal.TheVariants as refusal
-use Rattle.pim_top.specs.inner.Standing.{IsAtLine}
+use Rattle.pim_top.specs.inner.Standing.{IsAtLine, lines_refusal}
 
 -- the lines that were handed out were obeyed, and the output took what is written for them
 pub record IsDebugging (p : ProgramView) (fill : Fill) (bytes rest : List ℕ) (before now : Option (List ℕ)) (l : LinesView) (session : Option SessionView) : Type 0 where
@@ -75,10 +75,12 @@ abbrev pub command_refusal : ℕ → DebugFault → Refusal
 command_refusal n debug.NoMemory = refusal.NoMemory
 command_refusal n fault = refusal.Judged (judgement.Command n fault)
 
--- the refusal that lines come to: a line that is too long is no vector, and later no command
+-- the refusal of a line that is too long: it is no vector, and later no command
+abbrev pub long_refusal : Option SessionView → ℕ → Refusal
+long_refusal None n = refusal.Judged (judgement.Vector n)
+long_refusal (Some session) n = refusal.Judged (judgement.Command n debug.BadCommand)
+
+-- the refusal that lines come to
 abbrev pub debug_refusal : Option SessionView → LinesFault → Refusal
-debug_refusal session fault.Fault = refusal.ReadFault origin.Input
-debug_refusal None (fault.Long n) = refusal.Judged (judgement.Vector n)
-debug_refusal (Some session) (fault.Long n) = refusal.Judged (judgement.Command n debug.BadCommand)
-debug_refusal session fault.TooMany = refusal.Judged judgement.TooManyLines
-debug_refusal session fault.TooLong = refusal.TooLong origin.Input
+debug_refusal session (fault.Long n) = long_refusal session n
+debug_refusal session fault = lines_refusal fault

@@ -18,7 +18,8 @@ use crate::commands::reply::{is_quit, write_reply};
 use crate::commands::run::fill_of;
 use crate::judgement::Judgement;
 use crate::program::load_program;
-use crate::refusal::{Origin, Refusal};
+use crate::refusal::Refusal;
+use crate::walk::of_lines;
 use pim_debug::{DebugFault, Reply, Session};
 use pim_io::{NoMemory, Sink, Source};
 use pim_isa::{Fill, Program};
@@ -93,7 +94,7 @@ fn begin<'a, S: Source>(
             };
             Ok(session)
         }
-        Err(fault) => Err(of_first(fault)),
+        Err(fault) => Err(of_lines(fault)),
     }
 }
 
@@ -102,18 +103,6 @@ fn fits(program: &Program, line: &[u8]) -> bool
     ensures { result ≡ is_vector (length program.now.inputs) line.now }
 {
     vector_fits(line, program.inputs().len() as u32)
-}
-
-/// The refusal that the first line comes to.
-fn of_first(fault: LinesFault) -> Refusal
-    ensures { result ≡ debug_refusal None fault }
-{
-    match fault {
-        LinesFault::Fault => Refusal::ReadFault(Origin::Input),
-        LinesFault::Long(line) => Refusal::Judged(Judgement::Vector(line)),
-        LinesFault::TooMany => Refusal::Judged(Judgement::TooManyLines),
-        LinesFault::TooLong => Refusal::TooLong(Origin::Input),
-    }
 }
 
 /// The session of the vector in a line.
@@ -196,7 +185,7 @@ fn obey_line<S: Source, K: Sink>(
             Ok(reply) => answer(alloc, output, reply),
             Err(fault) => Err(of_command(number, fault)),
         },
-        Err(fault) => Err(of_lines(fault)),
+        Err(fault) => Err(of_further(fault)),
     }
 }
 
@@ -222,13 +211,11 @@ fn of_command(line: u32, fault: DebugFault) -> Refusal
 }
 
 /// The refusal that lines behind the first come to.
-fn of_lines(fault: LinesFault) -> Refusal
+fn of_further(fault: LinesFault) -> Refusal
     ensures { (session : SessionView) → result ≡ debug_refusal (Some session) fault }
 {
     match fault {
-        LinesFault::Fault => Refusal::ReadFault(Origin::Input),
         LinesFault::Long(line) => Refusal::Judged(Judgement::Command(line, DebugFault::BadCommand)),
-        LinesFault::TooMany => Refusal::Judged(Judgement::TooManyLines),
-        LinesFault::TooLong => Refusal::TooLong(Origin::Input),
+        fault => of_lines(fault),
     }
 }

@@ -24,7 +24,7 @@ use Rattle.pim_top.specs.declared.refusal.Refusal.{Refusal}
 use Rattle.pim_top.specs.declared.refusal.Refusal.TheVariants as refusal
 use Rattle.pim_top.specs.commands.Replies.{reply_line}
 use Rattle.pim_top.specs.inner.Sessions.{DebugStops, DebugsOn, IsDebugging, IsOfDebug, IsOfInput, IsUnwrittenReply, command_refusal, debug_refusal, is_quit}
-use Rattle.pim_top.specs.inner.Standing.{first_line}
+use Rattle.pim_top.specs.inner.Standing.{first_line, lines_refusal}
 use Rattle.pim_top.proofs.WalkStates.{told-both, told-map}
 use Rattle.pim_top.proofs.commands.debug.Lines.{begins, command-answered, command-cut, command-refused, input-ends, input-stops, stop-front, vector-refused, vector-starts}
 
@@ -213,6 +213,13 @@ answered-kinds text taken now m n k k' (Err refusal.Usage) same why = absurd why
 answered-kinds text taken now m n k k' (Err (refusal.ReadFault o)) same why = absurd why
 answered-kinds text taken now m n k k' (Err (refusal.TooLong o)) same why = absurd why
 answered-kinds text taken now m n k k' (Err (refusal.Judged j)) same why = absurd why
+
+-- the first line's refusal is that of any walk over lines
+pub first-refusal : (f : LinesFault) → debug_refusal None f ≡ lines_refusal f
+first-refusal faults.Fault = refl
+first-refusal (faults.Long n) = refl
+first-refusal faults.TooMany = refl
+first-refusal faults.TooLong = refl
 
 -- the counts of faults at a fault of lines
 pub fault-kinds : (session : Option SessionView) (f : LinesFault) (m n : ℕ) → (f ≡ faults.Fault → Rose m n) → (f ≢ faults.Fault → n ≡ m) → IsOfInput m n (debug_refusal session f)

@@ -5,7 +5,7 @@ use Rattle.pim_io.specs.Outside.{Told}
 use Rattle.pim_top.specs.declared.refusal.Refusal.{Refusal}
 use Rattle.pim_top.specs.inner.Sessions.{DebugStops, IsDebugging, IsOfInput}
 use Rattle.pim_top.proofs.WalkStates.{after-same}
-use Rattle.pim_top.proofs.commands.debug.Told.{begin-front, begin-none, begin-session, begin-stops, begin-unfit, fault-kinds}
+use Rattle.pim_top.proofs.commands.debug.Told.{begin-front, begin-none, begin-session, begin-stops, begin-unfit, fault-kinds, first-refusal}
 use Rattle.pim_top.proofs.commands.debug.begin.Goals as goal
 
 pub returns-in-Ok-None-clause-refused : goal.returns-in-Ok-None-clause-refused
@@ -25,13 +25,13 @@ returns-in-Err-clause-refused g c =
     let old = c.args.lines.now in
     let new = c.next.follows.lender-at-none in
     let R : Refusal → Type 0 = λ r. Told before now (λ left rest. (taken : Option (List ℕ)) → DebugStops c.args.program.now c.args.fill left rest taken taken r) in
-    subst R (sym c.of_first.ensures) (begin-stops before now c.args.program.now c.args.fill old new c.in-Err.fault c.requires
+    subst R (first-refusal c.in-Err.fault ∙ sym c.of_lines.ensures) (begin-stops before now c.args.program.now c.args.fill old new c.in-Err.fault c.requires
     (after-same old before now _ _ new c.in-Err.is c.next.follows.holds-at-none) c.in-Err.ensures.refused)
 
 pub returns-in-Err-clause-kinds : goal.returns-in-Err-clause-kinds
 returns-in-Err-clause-kinds g c =
     let R : Refusal → Type 0 = IsOfInput (g.S.Source.faults c.args.input.now) (g.S.Source.faults c.next.new.source) in
-    subst R (sym c.of_first.ensures) (fault-kinds None c.in-Err.fault (g.S.Source.faults c.args.input.now) (g.S.Source.faults c.next.new.source) c.in-Err.ensures.fault c.in-Err.ensures.spared)
+    subst R (first-refusal c.in-Err.fault ∙ sym c.of_lines.ensures) (fault-kinds None c.in-Err.fault (g.S.Source.faults c.args.input.now) (g.S.Source.faults c.next.new.source) c.in-Err.ensures.fault c.in-Err.ensures.spared)
 
 pub returns-in_default-clause-refused : goal.returns-in_default-clause-refused
 returns-in_default-clause-refused g c =

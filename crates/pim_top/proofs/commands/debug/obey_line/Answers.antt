@@ -57,11 +57,11 @@ returns-in-Err-clause-refused g c =
     let new = c.next.follows.lender-at-none in
     let s = c.args.session.now in
     let R : Refusal → Type 0 = λ r. Told before now (From s.program taken old s (λ fill bytes first rest. DebugStops s.program fill bytes rest first taken r)) in
-    subst R (sym (c.of_lines.ensures s)) (line-stops before now taken s.program old new s c.in-Err.fault c.requires
+    subst R (sym (c.of_further.ensures s)) (line-stops before now taken s.program old new s c.in-Err.fault c.requires
     (after-same old before now _ _ new c.in-Err.is c.next.follows.holds-at-none) c.in-Err.ensures.refused)
 
 pub returns-in-Err-clause-kinds : goal.returns-in-Err-clause-kinds
 returns-in-Err-clause-kinds g c =
     let s = c.args.session.now in
     let R : Refusal → Type 0 = IsOfDebug (g.S.Source.faults c.args.input.now) (g.S.Source.faults c.next.new.source) (g.K.Sink.faults c.args.output.now) (g.K.Sink.faults c.args.output.now) in
-    subst R (sym (c.of_lines.ensures s)) (line-kinds s c.in-Err.fault (g.S.Source.faults c.args.input.now) (g.S.Source.faults c.next.new.source) (g.K.Sink.faults c.args.output.now) c.in-Err.ensures.fault c.in-Err.ensures.spared)
+    subst R (sym (c.of_further.ensures s)) (line-kinds s c.in-Err.fault (g.S.Source.faults c.args.input.now) (g.S.Source.faults c.next.new.source) (g.K.Sink.faults c.args.output.now) c.in-Err.ensures.fault c.in-Err.ensures.spared)
