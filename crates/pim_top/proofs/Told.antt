@@ -4,10 +4,16 @@ use Rattle.pim_io.specs.Outside.{Rose, Told}
 use Rattle.pim_top.specs.Reads.{IsOver, IsReadBy, IsWithin, OfBytes, OfLimit, Tells}
 use Rattle.pim_top.specs.Streams.{HasFailed, IsOverrun, Stream}
 
+-- what follows of what holds of them
 pub told-map : (a b : Option (List ℕ)) (P Q : List ℕ → List ℕ → Type 0) → ((x y : List ℕ) → P x y → Q x y) → Told a b P → Told a b Q
 told-map None b P Q f h = tt
 told-map (Some x) None P Q f h = absurd h
 told-map (Some x) (Some y) P Q f h = f x y h
+
+pub told-both : (a b : Option (List ℕ)) (P Q R : List ℕ → List ℕ → Type 0) → ((x y : List ℕ) → P x y → Q x y → R x y) → Told a b P → Told a b Q → Told a b R
+told-both None b P Q R f h k = tt
+told-both (Some x) None P Q R f h k = absurd h
+told-both (Some x) (Some y) P Q R f h k = f x y h k
 
 -- what holds of the bytes that are told
 pub told-of : (a b : Option (List ℕ)) (x : List ℕ) (P : List ℕ → List ℕ → Type 0) → a ≡ Some x → Told a b P → (y : List ℕ) × P x y

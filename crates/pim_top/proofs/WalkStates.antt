@@ -19,6 +19,7 @@ use Rattle.pim_top.specs.declared.refusal.Origin.TheVariants as origin
 use Rattle.pim_top.specs.declared.refusal.Refusal.{Refusal}
 use Rattle.pim_top.specs.declared.refusal.Refusal.TheVariants as refusal
 use Rattle.pim_top.specs.inner.Standing.{IsEnd, IsRefusedHere, IsWalk, Stops, TakesUp, lines_refusal}
+use Rattle.pim_top.proofs.Told.{told-both, told-map}
 use Rattle.pim_top.proofs.LineStates.{Says, halts-next, judged-front, line-more, line-next, long-next, many-next, none-next, over-next}
 
 -- ---- what is judged of all bytes, by the lines that were handed out and those behind them
@@ -139,16 +140,6 @@ walk-more width bytes left rest front l new line h said fits longest given behin
     )
 
 -- ---- the same where the source tells its bytes
-pub told-both : (a b : Option (List ℕ)) (P Q R : List ℕ → List ℕ → Type 0) → ((x y : List ℕ) → P x y → Q x y → R x y) → Told a b P → Told a b Q → Told a b R
-told-both None b P Q R f h k = tt
-told-both (Some x) None P Q R f h k = absurd h
-told-both (Some x) (Some y) P Q R f h k = f x y h k
-
-pub told-map : (a b : Option (List ℕ)) (P Q : List ℕ → List ℕ → Type 0) → ((x y : List ℕ) → P x y → Q x y) → Told a b P → Told a b Q
-told-map None b P Q f h = tt
-told-map (Some x) None P Q f h = absurd h
-told-map (Some x) (Some y) P Q f h = f x y h
-
 -- a state after an answer, by what the answer is
 pub after-same : (old : LinesView) (a b : Option (List ℕ)) (r s : Result (Option (Bor (List ℕ))) LinesFault) (new : LinesView) → r ≡ s → IsAfter old a b r new → IsAfter old a b s new
 after-same old a b r s new e h = subst (λ (x : Result (Option (Bor (List ℕ))) LinesFault). IsAfter old a b x new) e h

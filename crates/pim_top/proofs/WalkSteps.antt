@@ -16,7 +16,8 @@ use Rattle.pim_top.specs.declared.refusal.Origin.TheVariants as origin
 use Rattle.pim_top.specs.declared.refusal.Refusal.{Refusal}
 use Rattle.pim_top.specs.declared.refusal.Refusal.TheVariants as refusal
 use Rattle.pim_top.specs.inner.Standing.{Goes, IsEnd, IsOfLines, IsRefusedHere, IsRunning, IsWalk, Refuses, Stops, TakesUp, first_line}
-use Rattle.pim_top.proofs.WalkStates.{fits-front, told-map}
+use Rattle.pim_top.proofs.Told.{told-map}
+use Rattle.pim_top.proofs.WalkStates.{fits-front}
 
 -- ---- what a sink took, piece by piece
 -- one piece after another

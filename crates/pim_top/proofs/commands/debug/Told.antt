@@ -25,7 +25,7 @@ use Rattle.pim_top.specs.declared.refusal.Refusal.TheVariants as refusal
 use Rattle.pim_top.specs.commands.Replies.{reply_line}
 use Rattle.pim_top.specs.inner.Sessions.{DebugStops, DebugsOn, IsDebugging, IsOfDebug, IsOfInput, IsUnwrittenReply, command_refusal, debug_refusal, is_quit}
 use Rattle.pim_top.specs.inner.Standing.{first_line, lines_refusal}
-use Rattle.pim_top.proofs.WalkStates.{told-both, told-map}
+use Rattle.pim_top.proofs.Told.{told-both, told-map}
 use Rattle.pim_top.proofs.commands.debug.Lines.{begins, command-answered, command-cut, command-refused, input-ends, input-stops, stop-front, vector-refused, vector-starts}
 
 -- what the walk over lines says of the bytes from the next line on
