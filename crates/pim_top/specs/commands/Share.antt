@@ -1,8 +1,8 @@
 -- What `share` says of a file of programs and of the turns of its input.
-use Rattle.std.specs.Prelude.{◌≡◌, ◌≤◌, ℕ, List, [], ◌∷◌, if◌then◌else◌, Option, None, Some, Result, Ok, Err, length}
+use Rattle.std.specs.Prelude.{◌≡◌, ◌≤◌, ℕ, List, [], ◌∷◌, Option, None, Some, Result, Ok, Err, length}
 use Rattle.pim_file.specs.ProgramFile.{parse1_of}
 use Rattle.pim_file.specs.Text.{text}
-use Rattle.pim_io.specs.Lines.{LineView, lines, without_return}
+use Rattle.pim_io.specs.Lines.{LineView, lines, text_of}
 use Rattle.pim_io.specs.Readings.{◌>>=◌}
 use Rattle.pim_io.specs.Words.{number_of}
 use Rattle.pim_io.specs.declared.limits.TheConstants.{MAX_INPUT, MAX_PROGRAM}
@@ -20,10 +20,6 @@ abbrev pub parts_of : List ℕ → Result (List ProgramView) Judgement
 parts_of file = judged_as (λ fault. Parts fault) (programs_of file)
 
 -- ---- turns
--- the text of a line: without its newline and a carriage return before that; a last line without a newline stands as it is
-abbrev pub line_text : LineView → List ℕ
-line_text line = if line.ended then without_return line.text else line.text
-
 -- the turn of a line with this number, or that the line is wrong
 abbrev pub numbered : ℕ → Option ℕ → Result ℕ Judgement
 numbered line (Some turn) = Ok turn
@@ -31,7 +27,7 @@ numbered line None = Err (Turn line)
 
 -- the turn that a line spells: a decimal number and nothing else
 abbrev pub turn_of : LineView → Result ℕ Judgement
-turn_of line = numbered line.number (number_of (line_text line))
+turn_of line = numbered line.number (number_of (text_of line))
 
 -- the turns of lines, or the first that spells none
 abbrev pub turns_in : List LineView → Result (List ℕ) Judgement

@@ -4,13 +4,13 @@ ghost use Rattle.pim_io.specs.Lines.{line_view};
 ghost use Rattle.pim_isa.specs.declared.draft.TheConstants.{MAX_CELLS};
 ghost use Rattle.pim_words.specs.declared.command.Command.TheVariants as commands;
 ghost use Rattle.pim_top.specs.Statuses.{IsNoMemory};
-ghost use Rattle.pim_top.specs.commands.Share.{ShareAnswers, line_text, parts_of, turn_of, turns_of};
+ghost use Rattle.pim_top.specs.commands.Share.{ShareAnswers, parts_of, turn_of, turns_of};
 
 use crate::judgement::Judgement;
 use crate::refusal::Origin;
 use crate::whole::WholeText;
 use pim_file::print;
-use pim_io::{Line, MAX_INPUT, MAX_PROGRAM, NoMemory, Scan, number, without_return};
+use pim_io::{Line, MAX_INPUT, MAX_PROGRAM, NoMemory, Scan, number, text_of};
 use pim_isa::Program;
 use pim_share::{merge, parse_many};
 use std::alloc::Global;
@@ -114,19 +114,8 @@ fn turn_of(line: Line) -> Result<u32, Judgement>
     ensures turn { IfOk result (λ turn. turn_of (line_view line.entry) ≡ Ok turn) }
     ensures refused { IfErr result (λ j. turn_of (line_view line.entry) ≡ Err j) }
 {
-    match number(line_text(line)) {
+    match number(text_of(&line)) {
         Some(turn) => Ok(turn),
         None => Err(Judgement::Turn(line.number)),
-    }
-}
-
-/// The text of a line.
-fn line_text<'a>(line: Line<'a>) -> &'a [u8]
-    ensures { result.now ≡ line_text (line_view line.entry) }
-{
-    if line.ended {
-        without_return(line.text)
-    } else {
-        line.text
     }
 }
