@@ -7,8 +7,6 @@ mod digits;
 mod fault;
 mod marks;
 mod proving;
-#[cfg(test)]
-mod tests;
 mod unset;
 mod values;
 mod verdict;
