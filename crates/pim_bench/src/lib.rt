@@ -3,8 +3,6 @@
 
 mod compiled;
 mod measuring;
-#[cfg(test)]
-mod tests;
 mod trial;
 
 pub use measuring::{WIDE_CELLS, measured};
