@@ -8,8 +8,6 @@ mod magic;
 mod plim;
 mod refusal;
 mod shorter;
-#[cfg(test)]
-mod tests;
 
 pub use compiling::{Level, compile, need};
 pub use refusal::Refusal;
