@@ -1,11 +1,11 @@
 ghost use Rattle.std.specs.Prelude.{◌≡◌, length, IfOk};
 
-use crate::{Batch, Executor, ImplyBatch, lines};
+use crate::{Batch, Executor, ImplyBatch};
 use pim_imply::{ImplyDraft, ImplyInstr, ImplyProgram};
 use pim_io::{MemSink, NoMemory};
 use pim_isa::{Fill, Program};
 use pim_samples::and_draft;
-use pim_vectors::{Stage, Tile, vector_fits};
+use pim_vectors::vector_fits;
 use std::alloc::Global;
 use std::process::Abort;
 use std::test::Fail;
@@ -32,20 +32,6 @@ fn a_line_is_written_for_each_vector(rt: HostRuntime) -> Result<(), Fail> {
     let mut sink = MemSink::new(rt.alloc(), 8, 8, &[1])?;
     batch.flush(&mut sink)?;
     assert_eq!(rt; sink.bytes(), b"0\n0\n0\n1\n".as_slice());
-    Ok(())
-}
-
-#[test]
-fn lines_that_have_no_room_in_the_chunk_are_written_next(rt: HostRuntime) -> Result<(), Fail> {
-    let mut results = Tile::new(rt.alloc(), 1, 1)?;
-    assert!(rt; vector_fits(b"1", 1));
-    results.pack(1, b"1");
-    let mut chunk = [0; 5];
-    // a third call of the sink would fail
-    let mut sink = MemSink::new(rt.alloc(), 6, 6, &[2])?;
-    let mut stage = Stage::new(rt.alloc(), 1)?;
-    lines::write_results(&results, &mut stage, 3, 2, &mut chunk, &mut sink)?;
-    assert_eq!(rt; sink.bytes(), b"0\n1\n0\n".as_slice());
     Ok(())
 }
 

@@ -1,5 +1,5 @@
 use crate::tests::is_of;
-use crate::{SmartFault, smart, smart_cost};
+use crate::{SmartFault, smart};
 use pim_aig::{Lit, MAX_INPUTS, MAX_OUTPUTS};
 use pim_isa::{MAX_CELLS, Operand, Ports, Program};
 use pim_mig::{MAX_NODES, Mig};
@@ -71,31 +71,6 @@ fn scheduled(alloc: Global, mig: &Mig, budget: u32) -> Result<Result<Program, Sm
     Err("no such ports")?
 }
 
-/// The exclusive or, of majorities with two constants: a complement is the second operand, and the last node takes a cell over.
-#[test]
-fn an_exclusive_or(rt: HostRuntime) -> Result<(), Fail> {
-    let mig = graph(rt.alloc(), 2, &[(2, 5, 0), (3, 4, 0), (6, 8, 1)], &[10])?;
-    assert_eq!(rt; smart_cost(rt.alloc(), &mig)?, 5);
-    let program = scheduled(rt.alloc(), &mig, 4)??;
-    let instrs = [
-        (Operand::Zero, Operand::One, 2),
-        (Operand::Cell(0), Operand::Cell(1), 2),
-        (Operand::Zero, Operand::One, 3),
-        (Operand::Cell(1), Operand::Cell(0), 3),
-        (Operand::Cell(2), Operand::Zero, 3),
-    ];
-    assert!(rt; is_of(&program, 4, &instrs));
-    let fault = scheduled(rt.alloc(), &mig, 3)?.err();
-    assert_eq!(rt;
-        fault,
-        Some(SmartFault::Unfit {
-            cells: 4,
-            budget: 3
-        })
-    );
-    Ok(())
-}
-
 /// Three plain operands: a temporary holds the complement of the second one.
 #[test]
 fn a_temporary_for_the_second(rt: HostRuntime) -> Result<(), Fail> {
@@ -109,46 +84,5 @@ fn a_temporary_for_the_second(rt: HostRuntime) -> Result<(), Fail> {
         (Operand::Cell(2), Operand::Cell(3), 4),
     ];
     assert!(rt; is_of(&program, 5, &instrs));
-    Ok(())
-}
-
-/// Three complemented operands: a temporary holds the first one.
-#[test]
-fn a_temporary_for_the_first(rt: HostRuntime) -> Result<(), Fail> {
-    let mig = graph(rt.alloc(), 3, &[(3, 5, 7)], &[8])?;
-    let program = scheduled(rt.alloc(), &mig, 5)??;
-    let instrs = [
-        (Operand::One, Operand::Zero, 3),
-        (Operand::Zero, Operand::Cell(0), 3),
-        (Operand::One, Operand::Zero, 4),
-        (Operand::Zero, Operand::Cell(2), 4),
-        (Operand::Cell(3), Operand::Cell(1), 4),
-    ];
-    assert!(rt; is_of(&program, 5, &instrs));
-    Ok(())
-}
-
-/// A node lends its cell to its one reader, but not where an output is its complement.
-#[test]
-fn a_node_that_lends_its_cell(rt: HostRuntime) -> Result<(), Fail> {
-    let mut mig = graph(rt.alloc(), 3, &[(2, 4, 6), (8, 2, 5)], &[10])?;
-    assert_eq!(rt; smart_cost(rt.alloc(), &mig)?, 6);
-    add_output(&mut mig, 9)?;
-    assert_eq!(rt; smart_cost(rt.alloc(), &mig)?, 10);
-    Ok(())
-}
-
-/// Outputs that are constants, and one that is the complement of an input.
-#[test]
-fn outputs_without_nodes(rt: HostRuntime) -> Result<(), Fail> {
-    let mig = graph(rt.alloc(), 1, &[], &[0, 1, 3])?;
-    let program = scheduled(rt.alloc(), &mig, 4)??;
-    let instrs = [
-        (Operand::Zero, Operand::One, 1),
-        (Operand::One, Operand::Zero, 2),
-        (Operand::One, Operand::Zero, 3),
-        (Operand::Zero, Operand::Cell(0), 3),
-    ];
-    assert!(rt; is_of(&program, 4, &instrs));
     Ok(())
 }

@@ -1,4 +1,4 @@
-use crate::{Refusal, base, needed, rm3_cost};
+use crate::{Refusal, base};
 use pim_aig::{Aig, Lit, MAX_ANDS, MAX_INPUTS, MAX_OUTPUTS};
 use pim_isa::{Instr, MAX_CELLS, Operand, Ports, Program};
 use std::alloc::Global;
@@ -87,21 +87,6 @@ pub(crate) fn is_of(program: &Program, cells: u32, instrs: &[(Operand, Operand, 
     true
 }
 
-/// The AND of two inputs: its cell is cleared, takes one input and is narrowed by the other.
-#[test]
-fn one_and(rt: HostRuntime) -> Result<(), Fail> {
-    let aig = graph(rt.alloc(), 2, &[(2, 4)], 6)?;
-    assert_eq!(rt; rm3_cost(rt.alloc(), &aig)?, 3);
-    let program = scheduled(rt.alloc(), &aig, 3)??;
-    let instrs = [
-        (Operand::Zero, Operand::One, 2),
-        (Operand::Cell(0), Operand::Zero, 2),
-        (Operand::Cell(1), Operand::One, 2),
-    ];
-    assert!(rt; is_of(&program, 3, &instrs));
-    Ok(())
-}
-
 /// A chain of ANDs: each takes over the cell of the one before it, so that fewer cells do than the note names.
 #[test]
 fn a_chain_of_ands(rt: HostRuntime) -> Result<(), Fail> {
@@ -117,35 +102,5 @@ fn a_chain_of_ands(rt: HostRuntime) -> Result<(), Fail> {
     assert!(rt; is_of(&program, 5, &instrs));
     let refusal = scheduled(rt.alloc(), &aig, 4)?.err();
     assert_eq!(rt; refusal, Some(Refusal::TooFewCells { needed: 6 }));
-    Ok(())
-}
-
-/// One input or the other, but not both: three ANDs that take no cell over, and the complement of the last one.
-#[test]
-fn a_complemented_output(rt: HostRuntime) -> Result<(), Fail> {
-    let aig = graph(rt.alloc(), 2, &[(2, 5), (3, 4), (7, 9)], 11)?;
-    assert_eq!(rt; rm3_cost(rt.alloc(), &aig)?, 11);
-    assert_eq!(rt; needed(rt.alloc(), &aig)?, 5);
-    let program = scheduled(rt.alloc(), &aig, 5)??;
-    assert_eq!(rt; program.cells(), 5);
-    assert_eq!(rt; program.instrs().len(), 11);
-    let refusal = scheduled(rt.alloc(), &aig, 4)?.err();
-    assert_eq!(rt; refusal, Some(Refusal::TooFewCells { needed: 5 }));
-    Ok(())
-}
-
-/// A node with itself stays, and with its complement is false.
-#[test]
-fn a_node_on_its_own_cell(rt: HostRuntime) -> Result<(), Fail> {
-    let aig = graph(rt.alloc(), 2, &[(2, 4), (6, 6), (8, 9)], 10)?;
-    let program = scheduled(rt.alloc(), &aig, 3)??;
-    let instrs = [
-        (Operand::Zero, Operand::One, 2),
-        (Operand::Cell(0), Operand::Zero, 2),
-        (Operand::Cell(1), Operand::One, 2),
-        (Operand::One, Operand::One, 2),
-        (Operand::Zero, Operand::One, 2),
-    ];
-    assert!(rt; is_of(&program, 3, &instrs));
     Ok(())
 }
