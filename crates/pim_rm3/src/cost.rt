@@ -3,8 +3,7 @@ ghost use Rattle.pim_aig.specs.Graph.{nodes};
 ghost use Rattle.pim_rm3.specs.Gates.{gates, taken};
 ghost use Rattle.pim_rm3.specs.Costs.{cost_of, rm3_cost};
 
-use crate::Gate;
-use crate::gate::gate_of;
+use crate::gate::{Gate, gate_of};
 use crate::gate_graph::gate_graph;
 use crate::over::all_taken;
 use pim_aig::Aig;

@@ -6,8 +6,7 @@ ghost use Rattle.pim_rm3.specs.Gates.{gate_of, gates, taken};
 ghost use Rattle.pim_rm3.specs.declared.gate.Gate.TheVariants as gate_is;
 ghost use Rattle.pim_rm3.specs.Schedules.{cell_of, gate_instrs, is_inverted, load, narrow, narrow_by, operand_of, output_cell, output_ports, schedule, set_to, settled};
 
-use crate::Gate;
-use crate::gate::gate_of;
+use crate::gate::{Gate, gate_of};
 use crate::loads::{add_load, cell_of, is_inverted, operand_of, rm3, set_to};
 use pim_aig::{Aig, Lit};
 use pim_io::NoMemory;

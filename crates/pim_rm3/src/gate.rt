@@ -7,7 +7,7 @@ use pim_aig::{Aig, Lit};
 
 /// What a literal of a graph is as a gate.
 #[derive(Clone, Copy, Debug, PartialEq, Eq)]
-pub enum Gate {
+pub(crate) enum Gate {
     /// A constant.
     Constant(bool),
 

@@ -3,8 +3,7 @@ ghost use Rattle.std.specs.List.{range_with_len};
 ghost use Rattle.pim_aig.specs.Graph.{nodes};
 ghost use Rattle.pim_rm3.specs.Gates.{ands_read, gate_graph, gate_of, is_input, with_and, with_root};
 
-use crate::Gate;
-use crate::gate::gate_of;
+use crate::gate::{Gate, gate_of};
 use pim_aig::{Aig, Lit};
 use pim_graph::Graph;
 use pim_io::NoMemory;

@@ -23,9 +23,6 @@ mod tests;
 mod votes;
 
 pub use cost::rm3_cost;
-pub use gate::Gate;
 pub use refusal::{Refusal, SmartFault};
-pub use role::Role;
 pub use schedule::{base, needed};
-pub use smart_schedule::{smart, smart_cost};
-pub use step::Step;
+pub use smart_schedule::smart;

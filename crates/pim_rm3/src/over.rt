@@ -4,8 +4,7 @@ ghost use Rattle.pim_graph.specs.Allotments.{IsOver};
 ghost use Rattle.pim_graph.specs.Readers.{CountsReads};
 ghost use Rattle.pim_rm3.specs.Gates.{gate_graph, gates, is_single, taken};
 
-use crate::Gate;
-use crate::gate::gate_of;
+use crate::gate::{Gate, gate_of};
 use pim_aig::{Aig, Lit};
 use pim_graph::{Graph, Readers};
 use pim_io::NoMemory;

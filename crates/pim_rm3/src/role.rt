@@ -8,11 +8,11 @@ use pim_mig::Maj;
 /// The operands of a majority in the one instruction that computes it: `p`, `q`, which the instruction complements, and `z`, which
 /// the target holds before. With `over` the target is the cell of `z` itself.
 #[derive(Clone, Copy, Debug, PartialEq, Eq)]
-pub struct Role {
-    pub p: Lit,
-    pub q: Lit,
-    pub z: Lit,
-    pub over: bool,
+pub(crate) struct Role {
+    pub(crate) p: Lit,
+    pub(crate) q: Lit,
+    pub(crate) z: Lit,
+    pub(crate) over: bool,
 }
 
 /// Whether the literal is the plain one of a node other than the constant one.

@@ -56,24 +56,19 @@ pub fn base(alloc: Global, aig: &Aig, ports: &Ports, budget: u32) -> Result<Prog
     ensures unfit { IfErr result (IsTooWideFor (cells_of aig.now) budget) }
     ensures most { IfErr result (AsksAtMost (coarse_of aig.now)) }
 {
-    let plan = match planned(alloc, aig) {
-        Ok(plan) => plan,
-        Err(NoMemory) => return Err(Refusal::NoMemory),
-    };
+    let plan = planned(alloc, aig)?;
     if budget < plan.allotment.width() {
         return Err(Refusal::TooFewCells {
             needed: plan.needed,
         });
     }
-    match drafted(alloc, aig, ports, &plan) {
-        Ok(draft) => match Program::new(draft) {
-            Ok(program) => {
-                program.laws();
-                Ok(program)
-            }
-            Err(_) => unreachable!(),
-        },
-        Err(NoMemory) => Err(Refusal::NoMemory),
+    let draft = drafted(alloc, aig, ports, &plan)?;
+    match Program::new(draft) {
+        Ok(program) => {
+            program.laws();
+            Ok(program)
+        }
+        Err(_) => unreachable!(),
     }
 }
 

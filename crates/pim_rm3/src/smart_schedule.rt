@@ -17,12 +17,12 @@ ghost use Rattle.pim_rm3.specs.SmartSchedules.{smart_program};
 ghost use Rattle.pim_rm3.specs.Steps.{enough_of, mig_gates, mig_graph, smart_cost, step_of};
 ghost use Rattle.pim_rm3.specs.Temporaries.{full_graph, full_order, full_over, smart_cells};
 
+use crate::SmartFault;
 use crate::mig_graph::{literals, mig_graph};
 use crate::ports::add_outputs;
-use crate::step::{step_at, step_cost, steps};
+use crate::step::{Step, steps};
 use crate::temporaries::{full_graph, full_order, full_over};
 use crate::votes::{add_votes, gate_cells};
-use crate::{SmartFault, Step};
 use pim_graph::{Allotment, Graph, allot, order};
 use pim_io::NoMemory;
 use pim_isa::{MAX_CELLS, Ports, Program, ProgramDraft, Target};
@@ -57,27 +57,25 @@ pub fn smart(alloc: Global, mig: &Mig, ports: &Ports, budget: u32) -> Result<Pro
     ensures enough { IfOk result (λ program. program.cells ≤ enough_of mig.now) }
     ensures cycles { IfOk result (λ program. length program.instrs ≡ smart_cost mig.now) }
     ensures primed { IfOk result (λ program. IsPrimed program.instrs) }
+
+    // The roles of a node are those of all six that cost least.
+    ensures least { OnOk result ((m : Maj) (x y z : Bool) → All (λ r. role_cost (least_role m x y z) ≤ role_cost r) (roles m x y z)) }
     ensures unfit { IfErr result (IsUnfitFor (enough_of mig.now) budget) }
     ensures told { IfErr result (TellsCells (smart_cells mig.now)) }
 {
     mig.has_values();
-    let plan = match planned(alloc, mig) {
-        Ok(plan) => plan,
-        Err(NoMemory) => return Err(SmartFault::NoMemory),
-    };
+    let plan = planned(alloc, mig)?;
     let cells = plan.allotment.width();
     if budget < cells {
         return Err(SmartFault::Unfit { cells, budget });
     }
-    match drafted(alloc, mig, ports, &plan) {
-        Ok(draft) => match Program::new(draft) {
-            Ok(program) => {
-                program.laws();
-                Ok(program)
-            }
-            Err(_) => unreachable!(),
-        },
-        Err(NoMemory) => Err(SmartFault::NoMemory),
+    let draft = drafted(alloc, mig, ports, &plan)?;
+    match Program::new(draft) {
+        Ok(program) => {
+            program.laws();
+            Ok(program)
+        }
+        Err(_) => unreachable!(),
     }
 }
 
@@ -166,34 +164,4 @@ fn drafted(alloc: Global, mig: &Mig, ports: &Ports, plan: &Plan) -> Result<Progr
     )?;
     add_votes(&mut draft, mig, &cells, held, &plan.steps, &plan.order)?;
     Ok(draft)
-}
-
-/// How many cycles the steps of the gates of an order take.
-fn total(mig: &Mig, steps: &[Step], order: &[u32]) -> u32
-    requires order { order.now ≡ mig_gates mig.now }
-    requires there { All (λ l. l < 2 * size mig.now) order.now }
-    requires steps { steps.now ≡ map (step_of mig.now) (range_with_len 0 (2 * size mig.now)) }
-    requires few { length order.now < 2 ^ 28 }
-    ensures { result ≡ smart_cost mig.now }
-{
-    let mut cycles = 0;
-    for literal in order {
-        cycles += step_cost(step_at(mig, steps, *literal));
-    }
-    cycles
-}
-
-/// How many cycles the schedule of a majority graph takes: one for each node and what its cheapest roles cost, two for each complement
-/// that is an output, and one for each constant that is one. Near linear in the graph.
-pub fn smart_cost(alloc: Global, mig: &Mig) -> Result<u32, NoMemory>
-    ensures cycles { IfOk result (λ cycles. cycles ≡ smart_cost mig.now) }
-
-    // The roles of a node are those of all six that cost least.
-    ensures least { OnOk result ((m : Maj) (x y z : Bool) → All (λ r. role_cost (least_role m x y z) ≤ role_cost r) (roles m x y z)) }
-{
-    let graph = mig_graph(alloc, mig)?;
-    graph.has_order();
-    let gates = order(alloc, &graph)?;
-    let steps = steps(alloc, mig, &graph, &gates)?;
-    Ok(total(mig, &steps, &gates))
 }

@@ -3,11 +3,10 @@ ghost use Rattle.std.specs.List.{range_with_len};
 ghost use Rattle.pim_graph.specs.Readers.{CountsReads};
 ghost use Rattle.pim_mig.specs.Graph.{size};
 ghost use Rattle.pim_rm3.specs.inner.Operands.{StepsBelow};
-ghost use Rattle.pim_rm3.specs.Steps.{can_be_taken, maj_at, mig_gates, mig_graph, step_cost, step_of};
+ghost use Rattle.pim_rm3.specs.Steps.{can_be_taken, maj_at, mig_gates, mig_graph, step_of};
 
-use crate::Role;
 use crate::mig_graph::literals;
-use crate::role::{least_role, role_cost};
+use crate::role::{Role, least_role};
 use pim_aig::Lit;
 use pim_graph::{Graph, Readers};
 use pim_io::NoMemory;
@@ -16,7 +15,7 @@ use std::alloc::Global;
 
 /// How the gate of a literal of a majority graph is computed.
 #[derive(Clone, Copy, Debug, PartialEq, Eq)]
-pub enum Step {
+pub(crate) enum Step {
     /// A constant is set.
     Constant(bool),
 
@@ -106,17 +105,4 @@ pub(crate) fn step_at(mig: &Mig, steps: &[Step], literal: u32) -> Step
 {
     let _count = literals(mig);
     steps[literal as usize]
-}
-
-/// How many cycles a step takes.
-pub(crate) fn step_cost(step: Step) -> u32
-    ensures cost { result ≡ step_cost step }
-    ensures few { result ≤ 7 }
-{
-    match step {
-        Step::Constant(_) => 1,
-        Step::Input => 0,
-        Step::Complement(_) => 2,
-        Step::Vote(role) => 1 + role_cost(role),
-    }
 }

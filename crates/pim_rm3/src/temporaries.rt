@@ -5,10 +5,9 @@ ghost use Rattle.pim_rm3.specs.Steps.{mig_gates, mig_graph, step_of};
 ghost use Rattle.pim_rm3.specs.inner.Operands.{StepsBelow};
 ghost use Rattle.pim_rm3.specs.Temporaries.{all_reads, full_graph, full_order, full_over, gate_number, gate_read, own_temporary, step_reads, step_takes, takes_of, temporary_of, temporary_reads, temporary_takes, with_temporary};
 
-use crate::Step;
 use crate::mig_graph::literals;
 use crate::role::temporary;
-use crate::step::step_at;
+use crate::step::{Step, step_at};
 use pim_aig::Lit;
 use pim_graph::Graph;
 use pim_io::NoMemory;

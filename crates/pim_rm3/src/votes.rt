@@ -7,10 +7,9 @@ ghost use Rattle.pim_rm3.specs.Steps.{mig_gates, step_of};
 ghost use Rattle.pim_rm3.specs.inner.Operands.{IsBelow, StepsBelow};
 
 use crate::loads::{add_load, cell_of, is_inverted, operand_of, rm3, set_to};
-use crate::role::is_plain;
-use crate::step::step_at;
+use crate::role::{Role, is_plain};
+use crate::step::{Step, step_at};
 use crate::temporaries::temporary_of;
-use crate::{Role, Step};
 use pim_aig::Lit;
 use pim_io::NoMemory;
 use pim_isa::{Operand, ProgramDraft};

@@ -13,46 +13,46 @@ use Rattle.pim_rm3.proofs.schedule.base.Goals as goal
 pub new-requires-clause-few_ports : goal.new-requires-clause-few_ports
 new-requires-clause-few_ports c =
     let g = c.args.aig.now in
-    let a = c.in-Ok.plan.allotment in
-    let is = c.in-Ok-drafted.ensures in
+    let a = c.in_ok-plan.plan.allotment in
+    let is = c.in_ok-draft.ensures in
     let ins = ap (λ (p : ProgramView). length p.inputs) is ∙ inputs_count c.args.ports.now.inputs 0 in
     let outs = ap (λ (p : ProgramView). length p.outputs) is ∙ ports_count g.inputs a.cells g.outputs c.args.ports.now.outputs c.requires.outputs in
-    omega (arith, c.requires.inputs, c.in-Ok.ensures.settled.small.inputs_fit, c.in-Ok.ensures.settled.small.outputs_fit)
+    omega (arith, c.requires.inputs, c.in_ok-plan.ensures.settled.small.inputs_fit, c.in_ok-plan.ensures.settled.small.outputs_fit)
 
 pub new-requires-clause-few_instrs : goal.new-requires-clause-few_instrs
 new-requires-clause-few_instrs c =
     let g = c.args.aig.now in
-    let a = c.in-Ok.plan.allotment in
-    let is = ap (λ (p : ProgramView). length p.instrs) c.in-Ok-drafted.ensures ∙ schedule_length g a.cells in
+    let a = c.in_ok-plan.plan.allotment in
+    let is = ap (λ (p : ProgramView). length p.instrs) c.in_ok-draft.ensures ∙ schedule_length g a.cells in
     let few = cost_within g in
-    omega (arith, c.in-Ok.ensures.few, c.in-Ok.ensures.settled.small.inputs_fit, c.in-Ok.ensures.settled.small.ands_fit)
+    omega (arith, c.in_ok-plan.ensures.few, c.in_ok-plan.ensures.settled.small.inputs_fit, c.in_ok-plan.ensures.settled.small.ands_fit)
 
-pub returns-in-Ok-new-clause-realizes : goal.returns-in-Ok-new-clause-realizes
-returns-in-Ok-new-clause-realizes c =
+pub returns-clause-realizes : goal.returns-clause-realizes
+returns-clause-realizes c =
     let g = c.args.aig.now in
     let ports = c.args.ports.now in
-    let a = c.in-Ok.plan.allotment in
-    let is : c.in-Ok-new.program ≡ program_of g ports a = c.in-Ok-new.ensures.program ∙ c.in-Ok-drafted.ensures in
+    let a = c.in_ok-plan.plan.allotment in
+    let is : c.in-Ok.program ≡ program_of g ports a = c.in-Ok.ensures.program ∙ c.in_ok-draft.ensures in
     let P : ProgramView → Type 0 = λ p. Realizes p ports.inputs (λ bits. map (aval g bits) g.outputs) in
-    subst P (sym is) (realizes g ports a c.in-Ok.ensures.settled c.laws.ensures.exec c.in-Ok.ensures.complete c.requires.inputs c.requires.outputs)
+    subst P (sym is) (realizes g ports a c.in_ok-plan.ensures.settled c.laws.ensures.exec c.in_ok-plan.ensures.complete c.requires.inputs c.requires.outputs)
 
-pub returns-in-Ok-new-clause-labels : goal.returns-in-Ok-new-clause-labels
-returns-in-Ok-new-clause-labels c =
+pub returns-clause-labels : goal.returns-clause-labels
+returns-clause-labels c =
     let g = c.args.aig.now in
-    let a = c.in-Ok.plan.allotment in
-    let is : c.in-Ok-new.program ≡ program_of g c.args.ports.now a = c.in-Ok-new.ensures.program ∙ c.in-Ok-drafted.ensures in
+    let a = c.in_ok-plan.plan.allotment in
+    let is : c.in-Ok.program ≡ program_of g c.args.ports.now a = c.in-Ok.ensures.program ∙ c.in_ok-draft.ensures in
     ap (λ (p : ProgramView). labels_of p.outputs) is ∙ labels_kept g.inputs a.cells g.outputs c.args.ports.now.outputs c.requires.outputs
 
-pub returns-in-Ok-new-clause-cycles : goal.returns-in-Ok-new-clause-cycles
-returns-in-Ok-new-clause-cycles c =
+pub returns-clause-cycles : goal.returns-clause-cycles
+returns-clause-cycles c =
     let g = c.args.aig.now in
-    let a = c.in-Ok.plan.allotment in
-    let is : c.in-Ok-new.program ≡ program_of g c.args.ports.now a = c.in-Ok-new.ensures.program ∙ c.in-Ok-drafted.ensures in
+    let a = c.in_ok-plan.plan.allotment in
+    let is : c.in-Ok.program ≡ program_of g c.args.ports.now a = c.in-Ok.ensures.program ∙ c.in_ok-draft.ensures in
     ap (λ (p : ProgramView). length p.instrs) is ∙ schedule_length g a.cells
 
 pub unreachable-requires : goal.unreachable-requires
 unreachable-requires c =
     let g = c.args.aig.now in
     let ports = c.args.ports.now in
-    let a = c.in-Ok.plan.allotment in
-    false≢true (c.in-Err-new.ensures.accepts (subst IsSound (sym c.in-Ok-drafted.ensures) (sound g ports a c.in-Ok.ensures.settled c.in-Ok.ensures.complete c.requires.inputs)))
+    let a = c.in_ok-plan.plan.allotment in
+    false≢true (c.in-Err.ensures.accepts (subst IsSound (sym c.in_ok-draft.ensures) (sound g ports a c.in_ok-plan.ensures.settled c.in_ok-plan.ensures.complete c.requires.inputs)))
