@@ -14,8 +14,8 @@ pub(crate) fn both(x: [u64; BLOCK], y: [u64; BLOCK]) -> [u64; BLOCK]
     words
 }
 
-/// The bits that are not those of a mask, for each word.
-pub(crate) fn unlike(x: [u64; BLOCK], mask: u64) -> [u64; BLOCK]
+/// Each word with the bits of a mask flipped.
+pub(crate) fn flipped(x: [u64; BLOCK], mask: u64) -> [u64; BLOCK]
     ensures { (j : ℕ) → j < BLOCK → slice_index result j ≡ bit_xor (slice_index x j) mask }
 {
     let mut words = [0; BLOCK];

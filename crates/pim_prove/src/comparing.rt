@@ -8,6 +8,7 @@ ghost use Rattle.pim_isa.specs.declared.target.Fill.TheVariants as fills;
 ghost use Rattle.pim_lanes.specs.Banks.{row_of, SameFrame};
 ghost use Rattle.pim_prove.specs.Vectors.{digits};
 ghost use Rattle.pim_prove.specs.inner.Comparing.{HasBlock, HoldsBlock, IsFound, block_start, differ, first_unlike, lanes_of, row_at, words_at};
+ghost use Rattle.pim_prove.specs.declared.proving.TheConstants.{MAX_PROVE_INPUTS};
 
 use crate::blocks::BLOCK;
 use crate::digits::fill_digits;
@@ -17,6 +18,12 @@ use pim_io::NoMemory;
 use pim_isa::{Fill, Port, Program};
 use pim_lanes::Bank;
 use std::alloc::Global;
+
+/// The most cells of a program that is executed in large tiles.
+const MAX_LARGE: u32 = 65_536;
+
+/// How many words a large tile has: 64 rows in each. A small one has a block of them.
+const LARGE_WORDS: u32 = 64;
 
 /// A vector for which a program doesn't give what a graph gives, and the first output that isn't the same.
 #[derive(Clone, Copy, Debug, PartialEq, Eq)]
@@ -33,7 +40,7 @@ pub(crate) fn first_difference(
 ) -> Result<Option<Difference>, NoMemory>
     requires inputs { length program.now.inputs ≡ aig.now.inputs }
     requires outputs { length program.now.outputs ≡ length aig.now.outputs }
-    requires few { aig.now.inputs ≤ 20 }
+    requires few { aig.now.inputs ≤ MAX_PROVE_INPUTS }
     ensures { IfOk result (IsFound program.now aig.now 0 (2 ^ aig.now.inputs)) }
 {
     let total = words_of(aig.inputs());
@@ -54,7 +61,7 @@ pub(crate) fn first_difference(
 
 /// How many words have a lane for each vector of so many inputs.
 fn words_of(inputs: u32) -> u32
-    requires { inputs ≤ 20 }
+    requires { inputs ≤ MAX_PROVE_INPUTS }
     ensures enough { 2 ^ inputs ≤ 64 * result }
     ensures few { result ≤ 2 ^ 14 }
     ensures some { 0 < result }
@@ -67,8 +74,8 @@ fn tile_words(program: &Program) -> u32
     ensures few { result ≤ 64 }
     ensures some { 0 < result }
 {
-    if program.cells() <= 65_536 {
-        64
+    if program.cells() <= MAX_LARGE {
+        LARGE_WORDS
     } else {
         BLOCK as u32
     }
@@ -85,7 +92,7 @@ fn compare_tile(
 ) -> Result<Option<Difference>, NoMemory>
     requires inputs { length program.now.inputs ≡ aig.now.inputs }
     requires outputs { length program.now.outputs ≡ length aig.now.outputs }
-    requires few { aig.now.inputs ≤ 20 }
+    requires few { aig.now.inputs ≤ MAX_PROVE_INPUTS }
     requires cells { bank.old.cells ≡ program.now.cells }
     requires words { length column.old ≡ bank.old.words }
     requires room { 64 * (start + bank.old.words) < 2 ^ 32 }
@@ -107,7 +114,7 @@ fn compare_tile(
 
 /// Makes the values those of the block that has the word at a place of a tile.
 fn reach(aig: &Aig, values: &mut Values, start: u32, place: usize) -> Result<(), NoMemory>
-    requires few { aig.now.inputs ≤ 20 }
+    requires few { aig.now.inputs ≤ MAX_PROVE_INPUTS }
     requires room { start + place + BLOCK < 2 ^ 32 }
     requires held { HoldsBlock aig.now values.old start place }
     ensures { OnOk result (HasBlock aig.now values.new (block_start start place)) }
@@ -120,7 +127,7 @@ fn reach(aig: &Aig, values: &mut Values, start: u32, place: usize) -> Result<(),
 
 /// Makes each row of a bank the row at the start for its vector.
 fn load_tile(bank: &mut Bank, column: &mut [u64], program: &Program, start: u32)
-    requires few { length program.now.inputs ≤ 20 }
+    requires few { length program.now.inputs ≤ MAX_PROVE_INPUTS }
     requires cells { bank.old.cells ≡ program.now.cells }
     requires words { length column.old ≡ bank.old.words }
     requires room { start + bank.old.words < 2 ^ 32 }

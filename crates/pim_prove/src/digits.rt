@@ -1,9 +1,10 @@
 ghost use Rattle.std.specs.Prelude.{◌≡◌, ℕ, ◌+◌, ◌*◌, ◌^◌, ◌<◌, length};
 ghost use Rattle.pim_io.specs.Lanes.{is_set, lane};
+ghost use Rattle.pim_prove.specs.declared.proving.TheConstants.{MAX_PROVE_INPUTS};
 
 /// The digit 2^k of the numbers of 64 vectors, from 64 times the word's number on: a lane for each.
 pub(crate) fn digit_word(k: u32, word: u32) -> u64
-    requires { k < 20 }
+    requires { k < MAX_PROVE_INPUTS }
     ensures { (r : ℕ) → r < 64 → is_set result r ≡ is_set (64 * word + r) k }
 {
     match k {
@@ -27,7 +28,7 @@ fn spread(bit: u32) -> u64
 
 /// The digit 2^k of the numbers of vectors, from 64 times the first word's number on.
 pub(crate) fn fill_digits(column: &mut [u64], k: u32, start: u32)
-    requires small { k < 20 }
+    requires small { k < MAX_PROVE_INPUTS }
     requires room { start + length column.old < 2 ^ 32 }
     ensures { (r : ℕ) → r < 64 * length column.old → lane column.new r ≡ is_set (64 * start + r) k }
 {

@@ -3,14 +3,15 @@ use pim_aig::FlatFault;
 use pim_io::NoMemory;
 use thiserror::Error;
 
-/// Why a program is not compared with a netlist: the first of these that applies, but for the last, which may come instead of each.
+/// Why a program is not compared with a netlist: the first of these that applies. The last one may come in place of each but `Ports`
+/// and `Inputs`, which are told before memory is taken.
 #[derive(Clone, Copy, Debug, PartialEq, Eq, Error)]
 pub enum ProveFault {
     /// The program has not as many inputs as the netlist, or not as many outputs.
     #[error("the program has other ports than the netlist")]
     Ports,
 
-    /// There are more than 20 inputs.
+    /// The netlist has more inputs than `MAX_PROVE_INPUTS`.
     #[error("the netlist has too many inputs")]
     Inputs,
 
@@ -18,7 +19,8 @@ pub enum ProveFault {
     #[error("the netlist has too many nodes")]
     Nodes,
 
-    /// What the program gives may depend on what a cell holds at the start.
+    /// The program uses a cell that is no input before it is written, or an output lies in such a cell at the end: the first such use,
+    /// as `first_unset` tells it.
     #[error("the program uses a cell before it is set")]
     NotClean(Unset),
 

@@ -3,8 +3,9 @@ ghost use Rattle.pim_aig.specs.Values.{literal_value, values_from};
 ghost use Rattle.pim_io.specs.Lanes.{is_set};
 ghost use Rattle.pim_prove.specs.Vectors.{digits};
 ghost use Rattle.pim_prove.specs.inner.Comparing.{lanes_of, words_at, HasBlock};
+ghost use Rattle.pim_prove.specs.declared.proving.TheConstants.{MAX_PROVE_INPUTS};
 
-use crate::blocks::{BLOCK, both, unlike};
+use crate::blocks::{BLOCK, both, flipped};
 use crate::digits::fill_digits;
 use pim_aig::{Aig, And, Lit};
 use pim_io::NoMemory;
@@ -37,7 +38,7 @@ impl Values {
 
     /// The values for the vectors from 64 times the first word's number on. Linear in the nodes.
     pub(crate) fn evaluate(&mut self, aig: &Aig, word: u32) -> Result<(), NoMemory>
-        requires few { aig.now.inputs ≤ 20 }
+        requires few { aig.now.inputs ≤ MAX_PROVE_INPUTS }
         requires room { word + BLOCK < 2 ^ 32 }
         ensures { OnOk result (HasBlock aig.now self.new word) }
     {
@@ -49,7 +50,7 @@ impl Values {
 
     /// Appends the words of the inputs.
     fn push_inputs(&mut self, inputs: u32, word: u32) -> Result<(), NoMemory>
-        requires few { inputs ≤ 20 }
+        requires few { inputs ≤ MAX_PROVE_INPUTS }
         requires room { word + BLOCK < 2 ^ 32 }
         ensures { OnOk result ((j r : ℕ) → j < BLOCK → r < 64
             → lanes_of (words_at self.new j) r ≡ lanes_of (words_at self.old j) r ++ digits inputs (64 * (word + j) + r)) }
@@ -81,7 +82,7 @@ impl Values {
     {
         let block = self.node(literal.node());
         if literal.is_complemented() {
-            unlike(block, u64::MAX)
+            flipped(block, u64::MAX)
         } else {
             block
         }
@@ -109,7 +110,7 @@ impl Values {
 
 /// The digit 2^k of the numbers of vectors, from 64 times the first word's number on.
 fn digit_words(k: u32, word: u32) -> [u64; BLOCK]
-    requires small { k < 20 }
+    requires small { k < MAX_PROVE_INPUTS }
     requires room { word + BLOCK < 2 ^ 32 }
     ensures { (j r : ℕ) → j < BLOCK → r < 64 → is_set (slice_index result j) r ≡ is_set (64 * (word + j) + r) k }
 {

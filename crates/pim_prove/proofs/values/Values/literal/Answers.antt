@@ -6,8 +6,8 @@ use Rattle.pim_prove.proofs.values.Values.literal.Goals as goal
 
 pub returns-then-is_complemented : goal.returns-then-is_complemented
 returns-then-is_complemented c = λ j r within small.
-    literal_complement (words_at c.args.self.now j) c.args.literal c.node.result (get_or c.node-block.result j 0) (get_or c.unlike.result j 0) r
-    (c.is_complemented.ensures.0 c.if-is_complemented.true) c.node.ensures (c.node-block.ensures j within) (c.unlike.ensures j within) small
+    literal_complement (words_at c.args.self.now j) c.args.literal c.node.result (get_or c.node-block.result j 0) (get_or c.flipped.result j 0) r
+    (c.is_complemented.ensures.0 c.if-is_complemented.true) c.node.ensures (c.node-block.ensures j within) (c.flipped.ensures j within) small
 
 pub returns-else-is_complemented : goal.returns-else-is_complemented
 returns-else-is_complemented c = λ j r within small.

@@ -1,6 +1,6 @@
 use Rattle.std.proofs.Common.{◌≡◌, set, get_or, ◌∙◌, arith, below_more, get_or-set_same, get_or-set_other, length-set}
 use Rattle.std.specs.Prelude.{bit_xor}
-use Rattle.pim_prove.proofs.blocks.unlike.Goals as goal
+use Rattle.pim_prove.proofs.blocks.flipped.Goals as goal
 
 pub loop-k-preserved : goal.loop-k-preserved
 loop-k-preserved c =
