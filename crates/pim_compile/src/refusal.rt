@@ -2,16 +2,17 @@ use pim_aig::FlatFault;
 use pim_io::NoMemory;
 use thiserror::Error;
 
-/// Why a netlist was not compiled.
+/// Why a netlist was not compiled. `TooLarge` comes before `TooFewCells`, and `NoMemory` may come in place of each.
 #[derive(Clone, Copy, Debug, PartialEq, Eq, Error)]
 pub enum Refusal {
-    /// The budget is below the cells that the netlist needs.
+    /// No program that the level tries fits. The budget is below `needed` then, which is what `need` tells of the netlist; but a budget
+    /// below that may be enough, except for MAGIC at level 0.
     #[error("too few cells")]
     TooFewCells { needed: u32 },
     /// The flat graph has more AND nodes than `pim_aig::MAX_ANDS`.
     #[error("too many nodes")]
     TooLarge,
-    /// Out of memory.
+    /// Out of memory, at any point.
     #[error("out of memory")]
     NoMemory,
 }
