@@ -17,5 +17,4 @@ mod tests;
 pub use batch::Batch;
 pub use executor::Executor;
 pub use imply::ImplyBatch;
-pub use limits::{LARGE_WORDS, MAX_LARGE, SMALL_WORDS};
 pub use rows::{gather_results, load_vectors};

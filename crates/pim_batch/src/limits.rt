@@ -1,8 +1,8 @@
 /// The most cells, and the most outputs, of a program that is executed in large tiles.
-pub const MAX_LARGE: u32 = 65_536;
+pub(crate) const MAX_LARGE: u32 = 65_536;
 
 /// How many words a column of a large tile has.
-pub const LARGE_WORDS: usize = 64;
+pub(crate) const LARGE_WORDS: usize = 64;
 
 /// How many words a column of a small tile has.
-pub const SMALL_WORDS: usize = 4;
+pub(crate) const SMALL_WORDS: usize = 4;
