@@ -5,5 +5,4 @@ mod compiled;
 mod measuring;
 mod trial;
 
-pub use measuring::{WIDE_CELLS, measured};
-pub use trial::ROWS;
+pub use measuring::measured;

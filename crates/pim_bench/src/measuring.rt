@@ -13,7 +13,7 @@ use pim_text::Text;
 use std::alloc::Global;
 
 /// The cells that the wide program may use.
-pub const WIDE_CELLS: u32 = 65_536;
+pub(crate) const WIDE_CELLS: u32 = 65_536;
 
 /// Compiles the adder of numbers of so many bits three times, at level 0: for MAGIC with 65,536 cells and with those that it needs,
 /// and for PLiM with those that it needs. Tries each program on 262,144 rows, 4,096 at a time. Tells the size of each, and how many

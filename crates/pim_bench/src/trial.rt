@@ -18,7 +18,7 @@ use std::alloc::Global;
 use std::marker::Model;
 
 /// How many rows a program is tried on.
-pub const ROWS: u32 = 262_144;
+pub(crate) const ROWS: u32 = 262_144;
 
 /// How many words a column has: 64 rows in each.
 const WORDS: usize = 64;
