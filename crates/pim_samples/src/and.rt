@@ -21,18 +21,6 @@ pub fn and_draft(alloc: Global) -> Result<ProgramDraft, NoMemory>
     Ok(draft)
 }
 
-/// The same without the Init: it gives the AND only where the cells 2 to 4 hold ones at the start.
-pub fn unset_and_draft(alloc: Global) -> Result<ProgramDraft, NoMemory>
-    ensures cells { IfOk result (λ draft. draft.cells ≡ 5) }
-    ensures inputs { IfOk result (λ draft. length draft.inputs ≡ 2) }
-    ensures outputs { IfOk result (λ draft. length draft.outputs ≡ 1) }
-    ensures instrs { IfOk result (λ draft. length draft.instrs ≡ 3) }
-{
-    let mut draft = ports_draft(alloc)?;
-    add_gates(&mut draft)?;
-    Ok(draft)
-}
-
 /// The ports alone.
 fn ports_draft(alloc: Global) -> Result<ProgramDraft, NoMemory>
     ensures cells { IfOk result (λ draft. draft.cells ≡ 5) }

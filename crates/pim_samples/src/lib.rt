@@ -5,4 +5,4 @@ mod and;
 #[cfg(test)]
 mod tests;
 
-pub use and::{and_draft, unset_and_draft};
+pub use and::and_draft;

@@ -1,4 +1,4 @@
-use crate::{and_draft, unset_and_draft};
+use crate::and_draft;
 use pim_isa::{Fill, Machine, Program};
 use std::test::Fail;
 
@@ -10,16 +10,5 @@ fn gives_the_and(rt: HostRuntime) -> Result<(), Fail> {
         assert!(rt; machine.step());
     }
     assert_eq!(rt; machine.cell(4), Some(true));
-    Ok(())
-}
-
-#[test]
-fn gives_no_and_where_cells_are_unset(rt: HostRuntime) -> Result<(), Fail> {
-    let program = Program::new(unset_and_draft(rt.alloc())?)?;
-    let mut machine = Machine::load(rt.alloc(), &program, &[true, true], Fill::Zeros)?;
-    for _ in 0..3 {
-        assert!(rt; machine.step());
-    }
-    assert_eq!(rt; machine.cell(4), Some(false));
     Ok(())
 }
