@@ -60,6 +60,16 @@ def test_words_that_are_refused(pim, folder):
         equal(f"the answer to {words}", (answer.status, answer.notes, answer.output), (2, b"pim: usage\n", b""))
 
 
+def test_words_of_the_other_commands_that_are_refused(pim, folder):
+    """Each further command refuses a missing file, a word too many, a missing option, a value out of range, and a wish for help."""
+    for line in (
+        "", "run a --help", "run --fill ones a", "list", "list a b", "explain a --tree=true", "share a", "share --cells 5",
+        "implyrun", "prove", "asm a", "convert", "convert --form 3", "imply", "imply --cells 1048577", "bench", "bench 0", "bench 65",
+    ):
+        answer = pim(*line.split(), stdin=AND)
+        equal(f"the answer to {line!r}", (answer.status, answer.notes, answer.output), (2, b"pim: usage\n", b""))
+
+
 def test_the_most_cells(pim, folder):
     """--cells takes numbers up to 1,048,576, and the program has no more cells than it needs."""
     gives(pim("compile", "--target", "magic", "--cells", "1048576", stdin=AND), COMPILED)

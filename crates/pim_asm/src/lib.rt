@@ -10,8 +10,6 @@ mod labels;
 mod listings;
 mod names;
 mod statement;
-#[cfg(test)]
-mod tests;
 mod words;
 
 pub use assembling::assemble;

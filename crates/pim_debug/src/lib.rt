@@ -2,8 +2,6 @@
 #![tactic(auto)]
 
 mod bits;
-#[cfg(test)]
-mod by_chance;
 mod command;
 mod fault;
 mod history;

@@ -6,7 +6,7 @@ use std::process::Abort;
 use std::test::Fail;
 
 /// An answer in words.
-pub(crate) fn told(alloc: Global, answer: &Result<Reply, DebugFault>) -> Result<String, Fail> {
+fn told(alloc: Global, answer: &Result<Reply, DebugFault>) -> Result<String, Fail> {
     Ok(format!(in alloc; "{answer:?}")?)
 }
 
@@ -86,30 +86,4 @@ fn two_breakpoints_at_one_position(rt: HostRuntime) -> Result<(), Fail> {
             ("run", "Ok(At(4))"),
         ],
     )
-}
-
-#[test]
-fn a_refused_command_changes_nothing(rt: HostRuntime) -> Result<(), Fail> {
-    let alloc = rt.alloc();
-    let program = Program::new(and_draft(alloc)?)?;
-    let mut session = Session::new(alloc, &program, &[true, true], Fill::Zeros)?;
-    obeys(
-        &rt,
-        alloc,
-        &mut session,
-        &[
-            ("step", "Ok(At(1))"),
-            ("step 4", "Err(OutOfProgram(5))"),
-            ("goto 4294967295", "Err(OutOfProgram(4294967295))"),
-            ("break 5", "Err(OutOfProgram(5))"),
-            ("delete 0", "Err(NoSuchBreak(0))"),
-            ("cell 5", "Err(NoSuchCell(5))"),
-            ("goto", "Err(BadCommand)"),
-            ("show 1", "Err(BadCommand)"),
-            ("cell 4294967296", "Err(BadCommand)"),
-        ],
-    )?;
-    assert_eq!(rt; session.position(), 1);
-    assert_eq!(rt; session.cell(5), None);
-    Ok(())
 }

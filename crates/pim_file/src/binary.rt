@@ -7,6 +7,3 @@ mod printing;
 
 pub(crate) use parsing::{has_tag, parse_binary};
 pub use printing::print_binary;
-
-#[cfg(test)]
-mod tests;

@@ -11,6 +11,3 @@ pub use binary::print_binary;
 pub use fault::FileFault;
 pub use parsing::{parse, parse_text};
 pub use printing::print;
-
-#[cfg(test)]
-mod tests;

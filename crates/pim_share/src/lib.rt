@@ -11,6 +11,3 @@ mod pieces;
 pub use fault::{ManyFault, ShareFault};
 pub use merging::merge;
 pub use pieces::parse_many;
-
-#[cfg(test)]
-mod tests;

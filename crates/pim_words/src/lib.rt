@@ -21,6 +21,3 @@ pub use command::{Command, FillWord, FormWord, LevelWord, TargetWord};
 pub use fault::WordsFault;
 pub use program::program_word;
 pub use reading::read;
-
-#[cfg(test)]
-mod tests;
