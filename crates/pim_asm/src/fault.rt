@@ -5,17 +5,19 @@ use pim_io::NoMemory;
 use pim_isa::Invalid;
 use thiserror::Error;
 
-/// Why a text of assembly is no program. Lines are counted from 1.
+/// Why a text of assembly is no program: the first line at fault, else the first fault of the program. Lines are counted
+/// from 1.
 #[derive(Clone, Copy, Debug, PartialEq, Eq, Error)]
 pub enum AsmFault {
-    /// This line is the first at fault: it has another shape, or may not stand there. Where the number of cells is missing, it is
-    /// one more than the lines.
+    /// This line is the first at fault: it has another shape, may not stand there, or says more than `MAX_CELLS` cells. Where the
+    /// target or the number of cells is missing, it is one more than the lines.
     #[error("a line is wrong")]
     Line(u32),
-    /// This line is the first at fault: it uses a name that is not defined before it, or defines one again.
+    /// This line is the first at fault, and has the shape of a statement: it uses a name that is not defined before it, or defines
+    /// one again.
     #[error("a name is not defined, or is defined twice")]
     Name(u32),
-    /// The program is not valid.
+    /// No line is at fault, and the program has this first fault.
     #[error("the program is not valid")]
     Invalid(Invalid),
     /// There was no memory.

@@ -4,22 +4,23 @@ ghost use Rattle.pim_debug.specs.declared.fault.DebugFault.TheVariants as faults
 use pim_io::NoMemory;
 use thiserror::Error;
 
-/// Why a command is refused.
+/// Why a command is refused. Each command has one cause besides memory.
 #[derive(Clone, Copy, Debug, PartialEq, Eq, Error)]
 pub enum DebugFault {
-    /// The line is no command.
+    /// The line has words, and is no command: another name, another number of words, or no number from 0 to 2^32 - 1 where one is
+    /// to stand.
     #[error("bad command")]
     BadCommand,
-    /// No breakpoint has this number.
+    /// `delete` names this number, under which no breakpoint is set.
     #[error("no such break")]
     NoSuchBreak(u32),
-    /// The program has fewer instructions than this position.
+    /// `step`, `goto` or `break` means this position, and the program has fewer instructions.
     #[error("out of program")]
     OutOfProgram(u64),
-    /// The program has no such cell.
+    /// `cell` names this cell, which the program does not have.
     #[error("no such cell")]
     NoSuchCell(u32),
-    /// There was no memory.
+    /// There was no memory to go forward, to set a breakpoint or for the bits of `show`.
     #[error("no memory")]
     NoMemory,
 }

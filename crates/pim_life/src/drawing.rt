@@ -13,7 +13,7 @@ use pim_io::NoMemory;
 use pim_isa::{Ins, Instr, Port, Program, Target};
 use std::alloc::Global;
 
-/// The most gates that a graph has.
+/// A graph has fewer gates than this.
 const MAX_GATES: u32 = 268_435_455;
 
 /// The graph of a MAGIC program's NORs: a gate for each, in order. It reads the NORs that wrote its operands' cells last, and the roots
@@ -85,7 +85,7 @@ fn step(
     Ok(())
 }
 
-/// Appends a gate. A graph that is full has no memory for it.
+/// Appends a gate. A graph of `MAX_GATES` - 1 gates is full, and has no memory for it.
 fn add_gate(graph: &mut Graph, children: &[u32]) -> Result<u32, NoMemory>
     requires few { length children.now ≤ 4 }
     requires there { All (λ c. c < length graph.old.kids) children.now }

@@ -8,7 +8,7 @@ pub enum TreeFault {
     #[error("the program is not for MAGIC")]
     NotMagic,
 
-    /// There was no memory.
+    /// The program is for MAGIC, and there was no memory for its graph, or it has `MAX_GATES` (268,435,455) NORs or more.
     #[error("no memory")]
     NoMemory,
 }

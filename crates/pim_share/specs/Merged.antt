@@ -12,6 +12,7 @@ use Rattle.pim_share.specs.Windows.{needed}
 use Rattle.pim_share.specs.declared.fault.ShareFault.{ShareFault}
 use Rattle.pim_share.specs.declared.fault.ShareFault.TheVariants as faults
 
+-- the two targets are not the same
 abbrev pub differ : Target → Target → Bool
 differ Magic Magic = false
 differ Magic Plim = true

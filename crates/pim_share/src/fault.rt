@@ -3,10 +3,10 @@ use pim_io::NoMemory;
 use std::alloc::AllocFailed;
 use thiserror::Error;
 
-/// Why a file is no programs one after another.
+/// Why a file is no row of programs. The first piece at fault is told, with its first fault.
 #[derive(Clone, Copy, Debug, PartialEq, Eq, Error)]
 pub enum ManyFault {
-    /// This piece, counted from 0, is the first that is no program file, and why.
+    /// This piece, counted from 0, is the first that is no text of a program, and why. A piece ends with its line `end`.
     #[error("a piece is no program")]
     Part { part: u32, fault: FileFault },
     /// There was no memory.
@@ -14,22 +14,23 @@ pub enum ManyFault {
     NoMemory,
 }
 
-/// Why programs can't share a row. Parts and turns are counted from 0.
+/// Why programs can't share a row: the first of these faults, in this order. Memory may run out before each of them. Parts
+/// and turns are counted from 0.
 #[derive(Clone, Copy, Debug, PartialEq, Eq, Error)]
 pub enum ShareFault {
     /// This part is the first whose target is not that of the first part.
     #[error("a part is for another target")]
     OtherTarget(u32),
-    /// The parts have more cells in all than the row.
+    /// The parts have more cells in all than the budget.
     #[error("there are too few cells")]
     TooFewCells {
         /// How many cells they have.
         needed: u64,
     },
-    /// This turn is the first that names no part, or a part without instructions left.
+    /// This turn is the first that names no part, or a part of which no instruction is left.
     #[error("a turn names no instruction")]
     Turn(u32),
-    /// This part is the first with instructions left behind the last turn.
+    /// No turn is wrong, and this part is the first of which instructions are left behind the last turn.
     #[error("turns of a part are missing")]
     Missing(u32),
     /// There was no memory.

@@ -23,9 +23,11 @@ argument_of name parser =
 abbrev pub option_of : Text → ValueParser → Rule
 option_of name parser = record (argument_of name parser) { long = Some name }
 
+-- the same argument or option, which may not be missing
 abbrev pub required : Rule → Rule
 required a = record a { required = true }
 
+-- the same argument or option, which has this value where it is missing
 abbrev pub with_default_text : Text → Rule → Rule
 with_default_text text a = record a { defaults = text ∷ [] }
 

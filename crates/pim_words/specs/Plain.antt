@@ -15,36 +15,45 @@ use Rattle.pim_words.specs.declared.command.LevelWord.TheVariants.{One, Two, Zer
 use Rattle.pim_words.specs.declared.command.TargetWord.{TargetWord}
 use Rattle.pim_words.specs.declared.command.TargetWord.TheVariants.{Magic, Plim}
 
+-- the value of `--target` for this machine
 abbrev pub target_text : TargetWord → Text
 target_text Magic = codes "magic"
 target_text Plim = codes "plim"
 
+-- the value of `--level` for this level
 abbrev pub level_text : LevelWord → Text
 level_text Zero = codes "0"
 level_text One = codes "1"
 level_text Two = codes "2"
 
+-- `--cells` with this value
 abbrev pub cells_words : Text → List Text
 cells_words cells = codes "--cells" ∷ cells ∷ []
 
+-- `compile` for this machine, with this value of `--cells`, and no level
 abbrev pub compile_words : TargetWord → Text → List Text
 compile_words target cells =
     codes "compile" ∷ codes "--target" ∷ target_text target ∷ cells_words cells
 
+-- `--level` with this level
 abbrev pub level_words : LevelWord → List Text
 level_words level = codes "--level" ∷ level_text level ∷ []
 
+-- the value of `--fill` for this filling
 abbrev pub fill_text : FillWord → Text
 fill_text Zeros = codes "zeros"
 fill_text Ones = codes "ones"
 
+-- `--fill` with this filling
 abbrev pub fill_words : FillWord → List Text
 fill_words fill = codes "--fill" ∷ fill_text fill ∷ []
 
+-- the value of `--form` for this form
 abbrev pub form_text : FormWord → Text
 form_text forms.Text = codes "1"
 form_text forms.Binary = codes "2"
 
+-- `convert` to this form
 abbrev pub convert_words : FormWord → List Text
 convert_words form = codes "convert" ∷ codes "--form" ∷ form_text form ∷ []
 

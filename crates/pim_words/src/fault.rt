@@ -6,11 +6,12 @@ use thiserror::Error;
 /// Why [`read`](crate::read) gives no command.
 #[derive(Debug, Drop, Error)]
 pub enum WordsFault {
-    /// There is no word, the first names no command, the file of a program is missing, or the other
-    /// words are not words of the command.
+    /// There is no word, the first names no command, the file that the command takes is missing, or
+    /// its command line refuses the other words. A wish for help is refused so too.
     #[error("usage")]
     Usage,
-    /// Memory ran out.
+    /// There was no memory. It comes after `Usage` for a missing word, an unknown name and a missing
+    /// file, and in place of it where `clap` ran out of memory.
     #[error("out of memory")]
     NoMemory,
 }
