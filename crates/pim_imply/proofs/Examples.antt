@@ -8,7 +8,7 @@ use Rattle.pim_imply.specs.Costs.{impcost, needed_of}
 use Rattle.pim_imply.specs.Gates.{gates, operands}
 use Rattle.pim_imply.specs.Machines.{iresult_of, istep}
 use Rattle.pim_imply.specs.Programs.{ImplyView}
-use Rattle.pim_imply.specs.Schedules.{program_of, schedule}
+use Rattle.pim_imply.specs.inner.Schedules.{program_of, schedule}
 use Rattle.pim_imply.specs.Validity.{fault_of}
 use Rattle.pim_imply.specs.declared.instr.ImplyInstr.{ImplyInstr}
 use Rattle.pim_imply.specs.declared.instr.ImplyInstr.TheVariants.{False, Imp}

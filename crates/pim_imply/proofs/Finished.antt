@@ -29,7 +29,7 @@ use Rattle.pim_imply.specs.Costs.{impcost}
 use Rattle.pim_imply.specs.Gates.{gates, imply_graph, is_input, operands, turned, with_root}
 use Rattle.pim_imply.specs.Machines.{iexec}
 use Rattle.pim_imply.specs.Realizes.{IRealizes, written}
-use Rattle.pim_imply.specs.Schedules.{cell_of, gate_instrs, output_ports, program_of, schedule}
+use Rattle.pim_imply.specs.inner.Schedules.{cell_of, gate_instrs, output_ports, program_of, schedule}
 use Rattle.pim_imply.specs.Validity.{first_instr_fault, fault_of}
 use Rattle.pim_imply.proofs.GateReads.{or_true, operands_few}
 use Rattle.pim_imply.proofs.Literals.{lit, bool_cases, turned_twice, even_value, input_value}

@@ -1,17 +1,20 @@
 -- The program of a netlist's flat graph is one of the netlist.
-use Rattle.std.proofs.Common.{◌≡◌, ◌<◌, Bool, List, ℕ, length, map, sym, ◌∙◌, subst}
+use Rattle.std.proofs.Common.{◌≡◌, ◌<◌, ◌≤◌, Bool, List, ℕ, length, map, sym, ◌∙◌, subst}
+use Rattle.pim_aig.specs.Flat.{ands, flat}
 use Rattle.pim_aig.specs.Graph.{AigView}
 use Rattle.pim_aig.specs.Values.{aval}
+use Rattle.pim_aig.specs.declared.graph.TheConstants.{MAX_ANDS}
 use Rattle.pim_isa.specs.PortLists.{labels_of}
 use Rattle.pim_isa.specs.Programs.{PortsView}
 use Rattle.pim_net.specs.Netlist.{NetView}
 use Rattle.pim_net.specs.Values.{outs}
-use Rattle.pim_imply.specs.Compiled.{IComputes}
+use Rattle.pim_imply.specs.Compiled.{IComputes, IsUnfit}
+use Rattle.pim_imply.specs.Costs.{needed_of}
 use Rattle.pim_imply.specs.Programs.{ImplyView}
 use Rattle.pim_imply.specs.Realizes.{IRealizes}
-use Rattle.pim_imply.specs.Refusals.{IsRefusalFor}
-use Rattle.pim_imply.specs.declared.refusal.Refusal.{Refusal}
-use Rattle.pim_imply.specs.declared.refusal.Refusal.TheVariants.{TooFewCells}
+use Rattle.pim_imply.specs.inner.Refusals.{IsRefusalFor}
+use Rattle.pim_imply.specs.declared.refusal.ImplyRefusal.{ImplyRefusal}
+use Rattle.pim_imply.specs.declared.refusal.ImplyRefusal.TheVariants as refusal
 
 -- what is realized, where two functions give the same
 realizes_same : (p : ImplyView) (labels : List (List ℕ)) (f h : List Bool → List Bool) → ((bits : List Bool) → length bits ≡ length labels → f bits ≡ h bits) → IRealizes p labels f → IRealizes p labels h
@@ -32,8 +35,8 @@ computes p n g ports inputs outputs many values realizes labels = record {
   labels = labels ∙ outputs;
 }
 
--- what a refusal for too few cells says
-pub short_is : (needed budget told : ℕ) (r : Refusal) → r ≡ TooFewCells told → IsRefusalFor needed budget r → (told ≡ needed) × (budget < told)
-short_is needed budget told r is h =
-    let says : IsRefusalFor needed budget (TooFewCells told) = subst (λ (x : Refusal). IsRefusalFor needed budget x) is h in
-    (says.0, subst (λ (n : ℕ). budget < n) (sym says.0) says.1)
+-- the refusal of a netlist's flat graph is one of the netlist
+pub unfit : (n : NetView) (needed budget : ℕ) (r : ImplyRefusal) → ands n ≤ MAX_ANDS → needed ≡ needed_of (flat n) → IsRefusalFor needed budget r → IsUnfit n budget r
+unfit n needed budget (refusal.TooFewCells told) few is h = record { few = few; is = h.0 ∙ is; below = subst (λ (m : ℕ). budget < m) (sym h.0) h.1 }
+unfit n needed budget refusal.TooLarge few is h = elim h [ ]
+unfit n needed budget refusal.NoMemory few is h = tt

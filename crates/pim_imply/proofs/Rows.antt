@@ -7,7 +7,7 @@ use Rattle.pim_imply.specs.declared.instr.ImplyInstr.{ImplyInstr}
 use Rattle.pim_imply.specs.declared.instr.ImplyInstr.TheVariants.{False, Imp}
 use Rattle.pim_imply.specs.Machines.{istep, iexec}
 use Rattle.pim_imply.specs.Realizes.{written}
-use Rattle.pim_imply.specs.Schedules.{nand_instrs}
+use Rattle.pim_imply.specs.inner.Schedules.{nand_instrs}
 
 written_same : (m : List Bool) (z : ℕ) (b : Bool) → z < length m → bit (set m z b) z ≡ b
 written_same m z b h = rw get_or-set_same refl

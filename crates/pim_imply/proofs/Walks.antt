@@ -16,7 +16,7 @@ use Rattle.pim_isa.specs.Steps.{bit}
 use Rattle.pim_imply.specs.declared.instr.ImplyInstr.{ImplyInstr}
 use Rattle.pim_imply.specs.Gates.{gates, imply_graph, is_input, operands, turned}
 use Rattle.pim_imply.specs.Machines.{iexec}
-use Rattle.pim_imply.specs.Schedules.{cell_of, gate_instrs, schedule}
+use Rattle.pim_imply.specs.inner.Schedules.{cell_of, gate_instrs, schedule}
 use Rattle.pim_imply.proofs.Literals.{lit, bool_cases, turned_twice, kind_of, gate_value, even_value, input_value}
 use Rattle.pim_imply.proofs.GateReads.{or_true, has_split, kids_at, gate_has, reached_takes, turned_below}
 use Rattle.pim_imply.proofs.Rows.{iexec_length, iexec_append, nand_gives, nand_off}

@@ -8,7 +8,5 @@ pub mod Lines
 pub mod Reading
 pub mod Spelled
 pub mod Gates
-pub mod Schedules
 pub mod Costs
-pub mod Refusals
 pub mod Compiled

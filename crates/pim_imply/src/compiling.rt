@@ -6,7 +6,7 @@ ghost use Rattle.pim_imply.specs.Compiled.{IComputes, IsUnfit};
 ghost use Rattle.pim_imply.specs.Costs.{impcost, needed_of};
 
 use crate::program::ImplyProgram;
-use crate::refusal::{ImplyRefusal, Refusal};
+use crate::refusal::ImplyRefusal;
 use crate::scheduling::imply;
 use pim_aig::flatten;
 use pim_net::Net;
@@ -28,9 +28,6 @@ pub fn compile_imply(alloc: Global, net: &Net, budget: u32) -> Result<ImplyProgr
 {
     let aig = flatten(alloc, net)?;
     let ports = ports_of(alloc, net)?;
-    match imply(alloc, &aig, &ports, budget) {
-        Ok(program) => Ok(program),
-        Err(Refusal::TooFewCells { needed }) => Err(ImplyRefusal::TooFewCells { needed }),
-        Err(Refusal::NoMemory) => Err(ImplyRefusal::NoMemory),
-    }
+    let program = imply(alloc, &aig, &ports, budget)?;
+    Ok(program)
 }

@@ -1,10 +1,12 @@
-ghost use Rattle.std.specs.Prelude.{◌≡◌, ◌<◌, ◌≤◌, [], ◌∷◌, ◌++◌, length, OnOk, OnErr};
+ghost use Rattle.std.specs.Prelude.{◌≡◌, ◌^◌, ◌<◌, ◌≤◌, [], ◌∷◌, ◌++◌, length, IfOk, OnOk, OnErr};
 ghost use Rattle.pim_io.specs.Names.{label as label_of};
+ghost use Rattle.pim_io.specs.declared.limits.TheConstants.{MAX_NAME};
+ghost use Rattle.pim_isa.specs.PortLists.{input_ports};
 ghost use Rattle.pim_imply.specs.Reading.{imply_kind, imply_parts};
 
 use crate::instr::ImplyInstr;
 use crate::lines::instr_of;
-use pim_io::NoMemory;
+use pim_io::{Name, NoMemory};
 use pim_isa::{MAX_CELLS, ProgramDraft, Target};
 use pim_text::{Draft, PortLine, line_laws};
 use std::alloc::Global;
@@ -41,10 +43,28 @@ impl ImplyDraft {
         }
     }
 
+    /// A draft with that many cells and inputs with these labels, in the cells from 0 on.
+    pub(crate) fn with_inputs(
+        alloc: Global,
+        cells: u32,
+        labels: &[Name],
+    ) -> Result<ImplyDraft, NoMemory>
+        requires within { cells ≤ MAX_CELLS }
+        requires few { length labels.now < 2 ^ 32 }
+        ensures { IfOk result (λ draft. draft ≡ record { cells = cells; inputs = input_ports 0 labels.now; outputs = []; instrs = [] }) }
+    {
+        let mut body = ProgramDraft::new(alloc, Target::Plim, cells);
+        body.add_inputs(labels)?;
+        Ok(ImplyDraft {
+            body,
+            instrs: Vec::new(alloc),
+        })
+    }
+
     /// Appends an input at the cell, with the label of this name. A call that is refused changes nothing.
     pub fn add_input(&mut self, cell: u32, label: &[u8]) -> Result<(), NoMemory>
         requires some { 0 < length label.now }
-        requires short { length label.now ≤ 4096 }
+        requires short { length label.now ≤ MAX_NAME }
         ensures ok { OnOk result
             (self.new ≡ record self.old { inputs = self.old.inputs ++ (record { cell = cell; label = label_of label.now }) ∷ [] }) }
         ensures err { OnErr result (self.new ≡ self.old) }
@@ -55,7 +75,7 @@ impl ImplyDraft {
     /// Appends an output at the cell, with the label of this name. A call that is refused changes nothing.
     pub fn add_output(&mut self, cell: u32, label: &[u8]) -> Result<(), NoMemory>
         requires some { 0 < length label.now }
-        requires short { length label.now ≤ 4096 }
+        requires short { length label.now ≤ MAX_NAME }
         ensures ok { OnOk result
             (self.new ≡ record self.old { outputs = self.old.outputs ++ (record { cell = cell; label = label_of label.now }) ∷ [] }) }
         ensures err { OnErr result (self.new ≡ self.old) }

@@ -1,8 +1,7 @@
-ghost use Rattle.std.specs.Prelude.{◌≡◌, ◌*◌, ◌^◌, ◌<◌, ◌++◌, All, length, map, slice_index, OnOk};
+ghost use Rattle.std.specs.Prelude.{◌≡◌, ◌*◌, ◌<◌, ◌++◌, All, length, map, slice_index, OnOk};
 ghost use Rattle.pim_aig.specs.Graph.{nodes};
-ghost use Rattle.pim_isa.specs.PortLists.{input_ports};
 ghost use Rattle.pim_imply.specs.Gates.{gates};
-ghost use Rattle.pim_imply.specs.Schedules.{cell_of, gate_instrs, output_ports, schedule};
+ghost use Rattle.pim_imply.specs.inner.Schedules.{cell_of, gate_instrs, output_ports, schedule};
 ghost use Rattle.pim_imply.specs.declared.instr.ImplyInstr.TheVariants.{Imp};
 
 use crate::draft::ImplyDraft;
@@ -49,9 +48,9 @@ fn add_imps(
     Ok(())
 }
 
-/// Adds the instructions of a gate.
+/// Adds the instructions of a gate. The list is room for the literals that it reads.
 fn add_gate(
-    alloc: Global,
+    operands: &mut Vec<u32>,
     draft: &mut ImplyDraft,
     aig: &Aig,
     cells: &[u32],
@@ -60,11 +59,10 @@ fn add_gate(
     requires { gate < 2 * nodes aig.now }
     ensures { OnOk result (draft.new ≡ record draft.old { instrs = draft.old.instrs ++ gate_instrs aig.now cells.now gate }) }
 {
-    let mut operands = Vec::new(alloc);
-    put_operands(&mut operands, aig, turned(gate))?;
+    put_operands(operands, aig, turned(gate))?;
     let z = cell_at(cells, gate);
     draft.add(ImplyInstr::False(z))?;
-    add_imps(draft, aig, cells, z, &operands)
+    add_imps(draft, aig, cells, z, operands)
 }
 
 /// Adds the instructions of all gates in their order.
@@ -79,21 +77,9 @@ pub(crate) fn add_gates(
     requires there { All (λ l. l < 2 * nodes aig.now) order.now }
     ensures { OnOk result (draft.new ≡ record draft.old { instrs = draft.old.instrs ++ schedule aig.now cells.now }) }
 {
+    let mut operands = Vec::new(alloc);
     for gate in order {
-        add_gate(alloc, draft, aig, cells, *gate)?;
-    }
-    Ok(())
-}
-
-/// Adds the input ports, in the cells from 0 on.
-pub(crate) fn add_inputs(draft: &mut ImplyDraft, labels: &[Name]) -> Result<(), NoMemory>
-    requires { length labels.now < 2 ^ 32 }
-    ensures { OnOk result (draft.new ≡ record draft.old { inputs = draft.old.inputs ++ input_ports 0 labels.now }) }
-{
-    let mut cell = 0;
-    for label in labels {
-        draft.add_input(cell, label.bytes())?;
-        cell += 1;
+        add_gate(&mut operands, draft, aig, cells, *gate)?;
     }
     Ok(())
 }

@@ -6,19 +6,20 @@ use pim_io::NoMemory;
 use pim_text::TextFault;
 use thiserror::Error;
 
-/// Why bytes are not the text of a program. Lines are counted from 1.
+/// Why bytes are not the text of a program: the first that holds of `Line`, `Truncated`, `TooLarge` and `Invalid`. Lines are
+/// counted from 1.
 #[derive(Clone, Copy, Debug, PartialEq, Eq, Error)]
 pub enum ImplyFault {
     /// This line is the first that may not stand where it stands, or is not spelled as it is to be.
     #[error("a line is wrong")]
     Line(u32),
-    /// The program is not valid.
+    /// The draft that the text says has this first fault.
     #[error("the program is not valid")]
     Invalid(ImplyInvalid),
     /// The program has more than `MAX_CELLS` cells.
     #[error("there are too many cells")]
     TooLarge,
-    /// The bytes end before the line `end`.
+    /// No line is wrong, and the bytes end before the line `end`.
     #[error("the bytes end too early")]
     Truncated,
     /// There was no memory.

@@ -1,7 +1,7 @@
 use thiserror::Error;
 
 /// Why a draft is no program: the first fault, with the place of the instruction or of the port. Ports are judged before
-/// instructions, and instructions in order.
+/// instructions, and instructions in order, each for `CellRange` first.
 #[derive(Clone, Copy, Debug, PartialEq, Eq, Error)]
 pub enum ImplyInvalid {
     /// The cell of a port isn't below the number of cells, or an input cell is repeated. Outputs count on after the inputs.
@@ -12,7 +12,7 @@ pub enum ImplyInvalid {
     #[error("an instruction names a cell that the program doesn't have")]
     CellRange(u32),
 
-    /// The instruction names one cell twice.
+    /// The `imp` at this place names one cell twice.
     #[error("an instruction names one cell twice")]
     SameCell(u32),
 }

@@ -28,5 +28,4 @@ pub use machine::ImplyMachine;
 pub use parsing::parse_imply;
 pub use printing::print_imply;
 pub use program::ImplyProgram;
-pub use refusal::{ImplyRefusal, Refusal};
-pub use scheduling::imply;
+pub use refusal::ImplyRefusal;

@@ -1,40 +1,17 @@
 ghost use Rattle.std.specs.Prelude.{◌≡◌};
-ghost use Rattle.pim_imply.specs.declared.refusal.Refusal.TheVariants as refusal;
 ghost use Rattle.pim_imply.specs.declared.refusal.ImplyRefusal.TheVariants as unfit;
 
 use pim_aig::FlatFault;
 use pim_io::NoMemory;
 use thiserror::Error;
 
-/// Why a graph is not scheduled.
-#[derive(Clone, Copy, Debug, PartialEq, Eq, Error)]
-pub enum Refusal {
-    /// The budget is below this number of cells.
-    #[error("there are too few cells")]
-    TooFewCells {
-        /// How many cells are needed.
-        needed: u32,
-    },
-    /// There was no memory.
-    #[error("no memory")]
-    NoMemory,
-}
-
-impl From<NoMemory> for Refusal {
-    ghost from_gives = { λ _ fault. fault ≡ refusal.NoMemory };
-
-    fn from(_error: NoMemory) -> Refusal {
-        Refusal::NoMemory
-    }
-}
-
-/// Why a netlist is not compiled.
+/// Why a netlist is not compiled. Too many nodes come before too few cells.
 #[derive(Clone, Copy, Debug, PartialEq, Eq, Error)]
 pub enum ImplyRefusal {
-    /// The budget is below this number of cells.
+    /// The budget is below the number of cells that are needed.
     #[error("there are too few cells")]
     TooFewCells {
-        /// How many cells are needed.
+        /// How many cells are needed: those of the inputs, and as many as the order of the gates holds values at once.
         needed: u32,
     },
     /// The flat graph has more AND nodes than `pim_aig::MAX_ANDS`.

@@ -9,14 +9,14 @@ ghost use Rattle.pim_isa.specs.PortLists.{labels_of};
 ghost use Rattle.pim_imply.specs.Costs.{impcost, needed_of};
 ghost use Rattle.pim_imply.specs.Gates.{gates, imply_graph};
 ghost use Rattle.pim_imply.specs.Realizes.{IRealizes};
-ghost use Rattle.pim_imply.specs.Refusals.{IsRefusalFor};
-ghost use Rattle.pim_imply.specs.Schedules.{program_of};
+ghost use Rattle.pim_imply.specs.inner.Refusals.{IsRefusalFor};
+ghost use Rattle.pim_imply.specs.inner.Schedules.{program_of};
 
 use crate::draft::ImplyDraft;
-use crate::emit::{add_gates, add_inputs, add_outputs};
+use crate::emit::{add_gates, add_outputs};
 use crate::graph::imply_graph;
 use crate::program::ImplyProgram;
-use crate::refusal::Refusal;
+use crate::refusal::ImplyRefusal;
 use pim_aig::Aig;
 use pim_graph::{Allotment, allot, order};
 use pim_io::NoMemory;
@@ -32,7 +32,12 @@ struct Plan {
 
 /// Schedules a graph in at most `budget` cells. Input k stands in cell k, and no instruction writes it. It is refused exactly
 /// below the cells that are needed: the inputs, and as many as the order of the gates holds values at once. Near linear.
-pub fn imply(alloc: Global, aig: &Aig, ports: &Ports, budget: u32) -> Result<ImplyProgram, Refusal>
+pub(crate) fn imply(
+    alloc: Global,
+    aig: &Aig,
+    ports: &Ports,
+    budget: u32,
+) -> Result<ImplyProgram, ImplyRefusal>
     requires inputs { length ports.now.inputs ≡ aig.now.inputs }
     requires outputs { length ports.now.outputs ≡ length aig.now.outputs }
     requires within { budget ≤ MAX_CELLS }
@@ -48,18 +53,18 @@ pub fn imply(alloc: Global, aig: &Aig, ports: &Ports, budget: u32) -> Result<Imp
     aig.has_values();
     let plan = match planned(alloc, aig) {
         Ok(plan) => plan,
-        Err(NoMemory) => return Err(Refusal::NoMemory),
+        Err(NoMemory) => return Err(ImplyRefusal::NoMemory),
     };
     let needed = plan.allotment.width();
     if budget < needed {
-        return Err(Refusal::TooFewCells { needed });
+        return Err(ImplyRefusal::TooFewCells { needed });
     }
     match drafted(alloc, aig, ports, &plan) {
         Ok(draft) => match ImplyProgram::new(draft) {
             Ok(program) => Ok(program),
             Err(_) => unreachable!(),
         },
-        Err(NoMemory) => Err(Refusal::NoMemory),
+        Err(NoMemory) => Err(ImplyRefusal::NoMemory),
     }
 }
 
@@ -93,8 +98,7 @@ fn drafted(alloc: Global, aig: &Aig, ports: &Ports, plan: &Plan) -> Result<Imply
     ensures { IfOk result (λ draft. draft ≡ program_of aig.now ports.now plan.now.allotment) }
 {
     let cells = plan.allotment.cells();
-    let mut draft = ImplyDraft::new(alloc, plan.allotment.width());
-    add_inputs(&mut draft, ports.inputs())?;
+    let mut draft = ImplyDraft::with_inputs(alloc, plan.allotment.width(), ports.inputs())?;
     add_outputs(&mut draft, aig, cells, ports.outputs())?;
     add_gates(alloc, &mut draft, aig, cells, &plan.order)?;
     Ok(draft)

@@ -1,5 +1,5 @@
 use Rattle.std.proofs.Common.{◌≡◌, ◌++◌, drop, flat_map}
-use Rattle.pim_imply.specs.Schedules.{gate_instrs}
+use Rattle.pim_imply.specs.inner.Schedules.{gate_instrs}
 use Rattle.pim_imply.proofs.emit.add_gates.Given as goal
 
 -- the draft so far, with the instructions of the gates that are left, is the draft with all of them

@@ -1,5 +1,5 @@
 use Rattle.std.proofs.Common.{◌≡◌, ◌++◌, drop, map}
-use Rattle.pim_imply.specs.Schedules.{cell_of}
+use Rattle.pim_imply.specs.inner.Schedules.{cell_of}
 use Rattle.pim_imply.specs.declared.instr.ImplyInstr.TheVariants.{Imp}
 use Rattle.pim_imply.proofs.emit.add_imps.Given as goal
 

@@ -1,5 +1,5 @@
 use Rattle.std.proofs.Common.{◌≡◌, ◌++◌, drop}
-use Rattle.pim_imply.specs.Schedules.{output_ports}
+use Rattle.pim_imply.specs.inner.Schedules.{output_ports}
 use Rattle.pim_imply.proofs.emit.add_outputs.Given as goal
 
 -- the draft so far, with the ports of the outputs that are left, is the draft with all of them

@@ -3,7 +3,7 @@ use Rattle.pim_aig.specs.Values.{aval}
 use Rattle.pim_isa.specs.PortLists.{labels_of}
 use Rattle.pim_imply.specs.Programs.{ImplyView}
 use Rattle.pim_imply.specs.Realizes.{IRealizes}
-use Rattle.pim_imply.specs.Schedules.{program_of}
+use Rattle.pim_imply.specs.inner.Schedules.{program_of}
 use Rattle.pim_imply.specs.Validity.{fault_of}
 use Rattle.pim_imply.proofs.Finished.{cost_within, faultless, inputs_count, labels_kept, outputs_count, realizes, schedule_length}
 use Rattle.pim_imply.proofs.Walks.{IsSettled}

@@ -1,4 +1,4 @@
--- The instructions that compute a gate into its cell, whatever that cell held before.
+-- Inner: the instructions that compute a gate into its cell, whatever that cell held before.
 use Rattle.std.specs.Prelude.{ℕ, ◌-◌, ◌/◌, if◌then◌else◌, List, [], ◌∷◌, flat_map, map, slice_index}
 use Rattle.pim_aig.specs.Graph.{AigView}
 use Rattle.pim_aig.specs.declared.literal.Lit.{Lit}
