@@ -1,7 +1,7 @@
 -- Counts of breakpoints by position, when one is set or taken away.
 use Rattle.std.proofs.Common.{◌≡◌, ◌≢◌, ℕ, zero, suc, ◌+◌, ◌<◌, Bool, true, false, ◌||◌, cond, eqb, List, [], ◌∷◌, length, map, set, get_or, ◌-◌, Option, Some, None, ◌⊎◌, ◌≤◌, inl, inr, refl, sym, ap, subst, ◌∙◌, arith}
-use Rattle.std.specs.Prelude.{nat_lt, count_by, sum_by}
-use Rattle.std.specs.List.{list_any}
+use Rattle.std.specs.Prelude.{nat_lt, count_by, sum_by, unwrap_or}
+use Rattle.std.specs.List.{find, list_any, range_with_len}
 use Rattle.std.proofs.lemmas.Bool.{ne_eqb, eqb-true, eqb-false, or_cases, or_parts, eq-eqb, lt-ltb, or_left, cond-true, cond-false, cases_Bool, cases_eq}
 use Rattle.std.proofs.lemmas.List.{length-set, get_or-set_same, get_or-set_other}
 use Rattle.std.proofs.lemmas.Option.{same_Some, none-some}
@@ -187,7 +187,7 @@ running_start last before stops is_there fits test = record {
   there = λ e.
       let same : before ≡ last = eqb-true before last (sym test ∙ e) in
       let none : last - before ≡ 0 = omega arith in
-      ap (λ (n : ℕ). next_stop n before stops) (sym none);
+      omega arith ∙ ap (λ (n : ℕ). next_stop n before stops) (sym none);
   going = λ e.
       let other : before ≢ last = eqb-false before last (sym test ∙ e) in
       omega arith;
@@ -198,14 +198,19 @@ running_start last before stops is_there fits test = record {
 pub next_stop-found : (last at : ℕ) (stops : List (Option ℕ)) → at < last → has_stop (at + 1) stops ≡ true →
     next_stop (last - at) at stops ≡ at + 1
 next_stop-found last at stops below here =
-    let more : last - at ≡ suc (last - at - 1) = omega arith in
-    ap (λ (n : ℕ). next_stop n at stops) more ∙ cond-true (has_stop (at + 1) stops) _ _ here
+    let left = last - at - 1 in
+    let more : last - at ≡ suc left = omega arith in
+    ap (λ (n : ℕ). next_stop n at stops) more
+    ∙ ap (λ (o : Option ℕ). unwrap_or o (at + suc left)) (cond-true (has_stop (at + 1) stops) _ _ here)
 
 pub next_stop-on : (last at : ℕ) (stops : List (Option ℕ)) → at < last → has_stop (at + 1) stops ≡ false →
     next_stop (last - at) at stops ≡ next_stop (last - (at + 1)) (at + 1) stops
 next_stop-on last at stops below none =
-    let more : last - at ≡ suc (last - (at + 1)) = omega arith in
-    ap (λ (n : ℕ). next_stop n at stops) more ∙ cond-false (has_stop (at + 1) stops) _ _ none
+    let left = last - (at + 1) in
+    let more : last - at ≡ suc left = omega arith in
+    ap (λ (n : ℕ). next_stop n at stops) more
+    ∙ ap (λ (o : Option ℕ). unwrap_or o (at + suc left)) (cond-false (has_stop (at + 1) stops) _ _ none)
+    ∙ ap (λ (n : ℕ). unwrap_or (find (λ k. has_stop k stops) (range_with_len (at + 1 + 1) left)) n) (omega arith)
 
 next_stop-last : (last at : ℕ) (stops : List (Option ℕ)) → at < last → at + 1 ≡ last → next_stop (last - at) at stops ≡ at + 1
 next_stop-last last at stops below e = by_cases (cases_Bool (has_stop (at + 1) stops))
@@ -214,7 +219,7 @@ next_stop-last last at stops below e = by_cases (cases_Bool (has_stop (at + 1) s
     by_cases (inl here) = next_stop-found last at stops below here
     by_cases (inr none) =
         let done : last - (at + 1) ≡ 0 = omega arith in
-        next_stop-on last at stops below none ∙ ap (λ (n : ℕ). next_stop n (at + 1) stops) done
+        next_stop-on last at stops below none ∙ ap (λ (n : ℕ). next_stop n (at + 1) stops) done ∙ omega arith
 
 pub running_step : (last before at at' : ℕ) (stops : List (Option ℕ)) (was_there is_there : Bool) →
     IsRunning last before at stops was_there → was_there ≡ false → at' ≡ at + 1 → is_there ≡ (eqb at' last || has_stop at' stops) →

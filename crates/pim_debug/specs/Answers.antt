@@ -1,5 +1,6 @@
 -- What a session answers to a command, by the state that it is in.
-use Rattle.std.specs.Prelude.{◌≡◌, ◌≢◌, ℕ, zero, suc, ◌+◌, ◌-◌, nat_lt, Bool, if◌then◌else◌, List, length, map, Option, Some, None, slice_set, is_some}
+use Rattle.std.specs.Prelude.{◌≡◌, ◌≢◌, ℕ, ◌+◌, ◌-◌, nat_lt, Bool, if◌then◌else◌, List, length, map, Option, Some, None, slice_set, is_some, unwrap_or}
+use Rattle.std.specs.List.{find, range_with_len}
 use Rattle.pim_isa.specs.Steps.{bit}
 use Rattle.pim_debug.specs.declared.command.Command.{Command}
 use Rattle.pim_debug.specs.declared.command.Command.TheVariants as command
@@ -31,10 +32,9 @@ refusal_of s (Some (command.Cell c)) = if nat_lt c s.program.cells then None els
 refusal_of s (Some command.Show) = None
 refusal_of s (Some command.Quit) = None
 
--- the first position above this one that has a breakpoint, of so many that follow; else the last of them
+-- of so many positions above this one, the first that has a breakpoint, and the last of them if none has
 abbrev pub next_stop : ℕ → ℕ → List (Option ℕ) → ℕ
-next_stop zero at stops = at
-next_stop (suc left) at stops = if has_stop (at + 1) stops then at + 1 else next_stop left (at + 1) stops
+next_stop left at stops = unwrap_or (find (λ k. has_stop k stops) (range_with_len (at + 1) left)) (at + left)
 
 -- where `run` goes
 abbrev pub run_end : SessionView → ℕ
