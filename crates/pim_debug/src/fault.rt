@@ -7,8 +7,8 @@ use thiserror::Error;
 /// Why a command is refused. Each command has one cause besides memory.
 #[derive(Clone, Copy, Debug, PartialEq, Eq, Error)]
 pub enum DebugFault {
-    /// The line has words, and is no command: another name, another number of words, or no number from 0 to 2^32 - 1 where one is
-    /// to stand.
+    /// The line has words, and is no command: another name, another number of words, or no number of at most ten digits below
+    /// 2^32 where one is to stand.
     #[error("bad command")]
     BadCommand,
     /// `delete` names this number, under which no breakpoint is set.
@@ -20,7 +20,8 @@ pub enum DebugFault {
     /// `cell` names this cell, which the program does not have.
     #[error("no such cell")]
     NoSuchCell(u32),
-    /// There was no memory to go forward, to set a breakpoint or for the bits of `show`.
+    /// There was no memory to go forward, to set a breakpoint or for the bits of `show`, or too many breakpoints stand at one
+    /// position to be counted.
     #[error("no memory")]
     NoMemory,
 }

@@ -3,10 +3,11 @@ use pim_io::NoMemory;
 use std::alloc::AllocFailed;
 use thiserror::Error;
 
-/// Why a file is no row of programs. The first piece at fault is told, with its first fault.
+/// Why a file is not programs one after another. The first piece at fault is told, with its first fault.
 #[derive(Clone, Copy, Debug, PartialEq, Eq, Error)]
 pub enum ManyFault {
-    /// This piece, counted from 0, is the first that is no text of a program, and why. A piece ends with its line `end`.
+    /// This piece, counted from 0, is the first that is no text of a program, and why. A piece goes to its line `end`, the last
+    /// one to the end of the file.
     #[error("a piece is no program")]
     Part { part: u32, fault: FileFault },
     /// There was no memory.
@@ -14,8 +15,7 @@ pub enum ManyFault {
     NoMemory,
 }
 
-/// Why programs can't share a row: the first of these faults, in this order. Memory may run out before each of them. Parts
-/// and turns are counted from 0.
+/// Why programs can't share a row: the first of these faults, in this order. Parts and turns are counted from 0.
 #[derive(Clone, Copy, Debug, PartialEq, Eq, Error)]
 pub enum ShareFault {
     /// This part is the first whose target is not that of the first part.
