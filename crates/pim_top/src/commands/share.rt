@@ -10,7 +10,7 @@ use crate::judgement::Judgement;
 use crate::refusal::Origin;
 use crate::whole::WholeText;
 use pim_file::print;
-use pim_io::{Line, MAX_INPUT, MAX_PROGRAM, NoMemory, Scan, number, text_of};
+use pim_io::{Line, MAX_INPUT, MAX_PROGRAM, NoMemory, Scan, number};
 use pim_isa::Program;
 use pim_share::{merge, parse_many};
 use std::alloc::Global;
@@ -114,7 +114,7 @@ fn turn_of(line: Line) -> Result<u32, Judgement>
     ensures turn { IfOk result (λ turn. turn_of (line_view line.entry) ≡ Ok turn) }
     ensures refused { IfErr result (λ j. turn_of (line_view line.entry) ≡ Err j) }
 {
-    match number(text_of(&line)) {
+    match number(pim_io::text_of(&line)) {
         Some(turn) => Ok(turn),
         None => Err(Judgement::Turn(line.number)),
     }
