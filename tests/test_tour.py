@@ -1,4 +1,5 @@
 """The tours of README.md and docs/guide.md: each command that they show prints what they show."""
+import re
 import shutil
 import subprocess
 
@@ -28,14 +29,18 @@ def can_run(command):
 
 
 def prints(page, folder, path):
-    """The commands of a page, one after another in a folder, print what the page shows, notes too."""
-    calls = shown_calls(page)
+    """The commands of a page, one after another in a folder, print what the page shows, notes too. A command is left out too
+    if it names a file that one which was left out would have written."""
+    calls, unwritten = shown_calls(page), set()
     equal(f"whether {page} has commands", bool(calls), True)
     for command, output in calls:
-        if can_run(command):
-            shell = ["bash", "-c", f'export PATH="{path}:$PATH"; {command} 2>&1']
-            done = subprocess.run(shell, cwd=folder, capture_output=True, timeout=60)
-            equal(f"what {command} prints", done.stdout.decode(), output)
+        names = set(re.findall(r"[\w/-]+\.[\w.-]+", command))
+        if names & unwritten or not can_run(command):
+            unwritten |= {name for name in names if not (folder / name).exists()}
+            continue
+        shell = ["bash", "-c", f'export PATH="{path}:$PATH"; {command} 2>&1']
+        done = subprocess.run(shell, cwd=folder, capture_output=True, timeout=60)
+        equal(f"what {command} prints", done.stdout.decode(), output)
 
 
 def test_the_tour(pim, folder):
