@@ -2,6 +2,7 @@ pub mod Allotting
 mod Examples
 mod TreeExamples
 pub mod LowerBound
+pub mod Marking
 pub mod Orderings
 pub mod Peaking
 pub mod Placing

@@ -1,6 +1,5 @@
 -- The peak of an order bounds what each place holds.
-use Rattle.std.proofs.Common.{◌≡◌, ℕ, ◌+◌, ◌<◌, ◌≤◌, zero, suc, max, List, [], ◌∷◌, ◌++◌, length, take, drop, count_by, append_assoc, ap, arith}
-use Rattle.std.proofs.Math.ListN.{drop_of_length-le}
+use Rattle.std.proofs.Common.{ℕ, ◌+◌, ◌<◌, ◌≤◌, zero, suc, List, [], ◌∷◌, ◌++◌, length, take, drop, count_by, append_assoc, ap, arith}
 use Rattle.std.proofs.lemmas.List.{append-nil, length_push}
 use Rattle.std.proofs.lemmas.List.Sums.{count_by-le-length}
 use Rattle.pim_graph.specs.Graphs.{GraphView}
@@ -22,9 +21,3 @@ peak_within g earlier (x ∷ later) =
     let rest = peak_within g (earlier ++ x ∷ []) later in
     let here = count_by-le-length (needed g (x ∷ later)) earlier in
     omega (arith, length_push earlier x)
-
--- at the end of an order nothing is left to hold
-pub peak_ends : (g : GraphView) (order : List ℕ) (p most whole : ℕ) → length order ≤ p → max most (peak_from g (take p order) (drop p order)) ≡ whole → most ≡ whole
-peak_ends g order p most whole h e =
-    let none = ap (peak_from g (take p order)) (drop_of_length-le order h) in
-    omega arith

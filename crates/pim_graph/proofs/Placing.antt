@@ -1,5 +1,5 @@
 -- Orders that hold each gate once, after its children.
-use Rattle.std.proofs.Common.{◌≡◌, ◌≢◌, ℕ, ◌+◌, ◌<◌, ◌≤◌, zero, suc, max, Bool, true, false, cond, eqb, nat_lt, ◌||◌, List, [], ◌∷◌, ◌++◌, length, get_or, take, drop, count_by, All, refl, sym, ◌∙◌, ap, subst, arith, inl, inr}
+use Rattle.std.proofs.Common.{◌≡◌, ◌≢◌, ℕ, ◌+◌, ◌<◌, ◌≤◌, zero, suc, Bool, true, false, cond, eqb, nat_lt, ◌||◌, List, [], ◌∷◌, ◌++◌, length, get_or, take, drop, count_by, All, refl, sym, ◌∙◌, ap, subst, arith, inl, inr}
 use Rattle.std.specs.List.{IsDistinct, AllByRecursion, list_any}
 use Rattle.std.proofs.lemmas.Bool.{cases_eq, false≢true}
 use Rattle.std.proofs.lemmas.Bool.Decides.{nat_tests}
@@ -7,9 +7,9 @@ use Rattle.std.proofs.lemmas.List.{take_more, drop_more, length-take, get_or-tak
 use Rattle.std.proofs.lemmas.List.Sums.{sum_by-cons, sum_by-append}
 use Rattle.std.proofs.lemmas.Map.Steps.{length-le_from_distinct_below}
 use Rattle.pim_graph.specs.Graphs.{GraphView, has, kids_of}
-use Rattle.pim_graph.specs.Peaks.{IsPlaced, needed, peak_from}
-use Rattle.pim_graph.specs.Readers.{occurrences, reads, still_needed}
-use Rattle.pim_graph.proofs.ReadLemmas.{has-occurrences, needed_counted, occurrences-push, one_at_most}
+use Rattle.pim_graph.specs.Peaks.{IsPlaced}
+use Rattle.pim_graph.specs.Readers.{occurrences, reads}
+use Rattle.pim_graph.proofs.ReadLemmas.{has-occurrences, occurrences-push, one_at_most}
 
 or_left : (a b : Bool) → (a || b) ≡ false → a ≡ false
 or_left true b h = h
@@ -101,20 +101,6 @@ pub count_push : (p : ℕ → Bool) (xs : List ℕ) (x : ℕ) → count_by p (xs
 count_push p xs x =
     let a = sum_by-append (λ v. cond {A = ℕ} (p v) 1 0) xs (x ∷ []) in
     let b = sum_by-cons (λ v. cond {A = ℕ} (p v) 1 0) x [] in
-    omega arith
-
--- the peak of the rest, from one place on
-pub peak_step : (g : GraphView) (order left : List ℕ) (p most held whole n : ℕ) → p < length order → All (λ x. x < n) (take p order) → ((x : ℕ) → x < n → get_or left x 0 ≡ reads g (drop p order) x) → held ≡ count_by (still_needed g left) (take p order) → max most (peak_from g (take p order) (drop p order)) ≡ whole → max (max most (held + 1)) (peak_from g (take (p + 1) order) (drop (p + 1) order)) ≡ whole
-peak_step g order left p most held whole n h below is counted rest =
-    let x = get_or order p 0 in
-    let later = drop (p + 1) order in
-    let earlier = take p order in
-    let cut : drop p order ≡ x ∷ later = drop_more order p 0 h in
-    let grown : take (p + 1) order ≡ earlier ++ x ∷ [] = take_more order p 0 h in
-    let same : count_by (still_needed g left) earlier ≡ count_by (needed g (drop p order)) earlier = count_below (still_needed g left) (needed g (drop p order)) n (λ y l. needed_counted g (drop p order) left y (is y l)) earlier below in
-    let here : peak_from g earlier (drop p order) ≡ max (count_by (needed g (x ∷ later)) earlier + 1) (peak_from g (earlier ++ x ∷ []) later) = ap (peak_from g earlier) cut in
-    let readers = ap (λ (ys : List ℕ). count_by (needed g ys) earlier) cut in
-    let after = ap (λ (ys : List ℕ). peak_from g ys later) grown in
     omega arith
 
 pub take-All : (xs : List ℕ) (n p : ℕ) → All (λ x. x < n) xs → All (λ x. x < n) (take p xs)

@@ -17,9 +17,6 @@ eqb_same a = grind (arith, nat_tests)
 eqb_other : (a b : ℕ) → a ≢ b → eqb a b ≡ false
 eqb_other a b h = grind (arith, nat_tests)
 
-eqb_means : (a b : ℕ) → eqb a b ≡ true → a ≡ b
-eqb_means a b h = grind (arith, nat_tests)
-
 lt_true : (n : ℕ) → 0 < n → nat_lt 0 n ≡ true
 lt_true n h = grind (arith, nat_tests)
 
@@ -37,10 +34,6 @@ and_not_true false = refl
 and_not_false : (b : Bool) → (b && not false) ≡ b
 and_not_false true = refl
 and_not_false false = refl
-
-and_left : (b c : Bool) → (b && c) ≡ true → b ≡ true
-and_left true c h = refl
-and_left false c h = h
 
 occurrences-sum : (xs : List ℕ) (c : ℕ) → occurrences xs c ≡ sum_by (λ y. cond (eqb y c) 1 0) xs
 occurrences-sum [] c = refl

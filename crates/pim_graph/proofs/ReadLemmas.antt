@@ -1,5 +1,5 @@
 -- How often gates are read, and what that says of the gates that are held.
-use Rattle.std.proofs.Common.{◌≡◌, ◌≢◌, ◌⊎◌, ℕ, ◌+◌, ◌-◌, ◌*◌, ◌<◌, ◌≤◌, All, Bool, true, false, cond, eqb, nat_lt, ◌||◌, List, [], ◌∷◌, ◌++◌, length, get_or, set, drop, count_by, refl, sym, ◌∙◌, ap, subst, arith, inl, inr}
+use Rattle.std.proofs.Common.{◌≡◌, ◌≢◌, ℕ, ◌+◌, ◌-◌, ◌*◌, ◌<◌, ◌≤◌, All, Bool, true, false, cond, eqb, nat_lt, ◌||◌, List, [], ◌∷◌, ◌++◌, length, get_or, set, drop, count_by, refl, sym, ◌∙◌, ap, arith, inl, inr}
 use Rattle.std.proofs.lemmas.Bool.{cases_eq}
 use Rattle.std.proofs.lemmas.Bool.Decides.{nat_tests}
 use Rattle.std.proofs.lemmas.List.Sums.{sum_by-cons}
@@ -41,10 +41,10 @@ count_same p q h (x ∷ xs) =
     let e = count_same p q h xs in
     omega arith
 
-eqb_is : (a b : ℕ) → a ≡ b → eqb a b ≡ true
+pub eqb_is : (a b : ℕ) → a ≡ b → eqb a b ≡ true
 eqb_is a b h = grind (arith, nat_tests)
 
-eqb_not : (a b : ℕ) → a ≢ b → eqb a b ≡ false
+pub eqb_not : (a b : ℕ) → a ≢ b → eqb a b ≡ false
 eqb_not a b h = grind (arith, nat_tests)
 
 pub count_differs : (p q : ℕ → Bool) (c : ℕ) → ((y : ℕ) → y ≢ c → p y ≡ q y) → p c ≡ true → q c ≡ false → (xs : List ℕ) → count_by p xs ≡ count_by q xs + occurrences xs c
@@ -71,9 +71,6 @@ pub occurrences-push : (xs : List ℕ) (x c : ℕ) → occurrences (xs ++ x ∷ 
 occurrences-push [] x c = omega arith
 occurrences-push (y ∷ ys) x c = omega (arith, occurrences-push ys x c)
 
-after_other : (g : GraphView) (left : List ℕ) (c v y : ℕ) → y ≢ c → still_needed g (set left c v) y ≡ still_needed g left y
-after_other g left c v y ne = ap (λ (n : ℕ). nat_lt 0 n || has g.roots y) (get_or-set_other left c y v 0 ne)
-
 lt_true : (n : ℕ) → 0 < n → nat_lt 0 n ≡ true
 lt_true n h = grind (arith, nat_tests)
 
@@ -86,33 +83,6 @@ or_true false c h = h
 
 true_or : (b c : Bool) → b ≡ true → (b || c) ≡ true
 true_or b c h = ap (λ (x : Bool). x || c) h
-
-false_or : (b c : Bool) → b ≡ false → c ≡ false → (b || c) ≡ false
-false_or b c h k = ap (λ (x : Bool). x || c) h ∙ k
-
--- the last read of a gate that is no root frees it
-pub freed_one : (g : GraphView) (left : List ℕ) (c : ℕ) (earlier : List ℕ) → c < length left → get_or left c 0 ≡ 1 → has g.roots c ≡ false → occurrences earlier c ≡ 1 → count_by (still_needed g (set left c (get_or left c 0 - 1))) earlier + 1 ≡ count_by (still_needed g left) earlier
-freed_one g left c earlier fits one no_root once =
-    let v = get_or left c 0 - 1 in
-    let z : v ≡ 0 = omega arith in
-    let before : still_needed g left c ≡ true = true_or (nat_lt 0 (get_or left c 0)) (has g.roots c) (lt_true (get_or left c 0) (omega arith)) in
-    let now : get_or (set left c v) c 0 ≡ 0 = get_or-set_same left c v 0 fits ∙ z in
-    let after : still_needed g (set left c v) c ≡ false = false_or (nat_lt 0 (get_or (set left c v) c 0)) (has g.roots c) (lt_false (get_or (set left c v) c 0) now) no_root in
-    let d = count_differs (still_needed g left) (still_needed g (set left c v)) c (λ y ne. sym (after_other g left c v y ne)) before after earlier in
-    omega arith
-
--- a gate that is a root or has more reads stays needed
-pub freed_none : (g : GraphView) (left : List ℕ) (c : ℕ) (earlier : List ℕ) → c < length left → 1 ≤ get_or left c 0 → (1 < get_or left c 0) ⊎ (has g.roots c ≡ true) → count_by (still_needed g (set left c (get_or left c 0 - 1))) earlier + 0 ≡ count_by (still_needed g left) earlier
-freed_none g left c earlier fits some why =
-    let v = get_or left c 0 - 1 in
-    let before : still_needed g left c ≡ true = true_or (nat_lt 0 (get_or left c 0)) (has g.roots c) (lt_true (get_or left c 0) (omega arith)) in
-    let after : still_needed g (set left c v) c ≡ true = elim why [
-      | inl more ↦ true_or (nat_lt 0 (get_or (set left c v) c 0)) (has g.roots c) (let now = get_or-set_same left c v 0 fits in lt_true (get_or (set left c v) c 0) (omega arith))
-      | inr root ↦ or_true (nat_lt 0 (get_or (set left c v) c 0)) (has g.roots c) root
-    ] in
-    let P : ℕ → Type 0 = λ y. still_needed g (set left c v) y ≡ still_needed g left y in
-    let d = count_same (still_needed g (set left c v)) (still_needed g left) (λ y. elim (cases_eq y c) [ inl same ↦ subst P (sym same) (after ∙ sym before) | inr ne ↦ after_other g left c v y ne ]) earlier in
-    omega arith
 
 -- one read is taken back from the rest of the reads
 pub read_taken : (left children : List ℕ) (old : ℕ → ℕ) (n k : ℕ) → length left ≡ n → k < length children → get_or children k 0 < n → ((x : ℕ) → x < n → get_or left x 0 + occurrences children x ≡ old x + occurrences (drop k children) x) → ((x : ℕ) → x < n → occurrences children x ≤ old x) → 1 ≤ get_or left (get_or children k 0) 0

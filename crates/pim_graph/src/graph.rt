@@ -11,8 +11,8 @@ use std::marker::Model;
 /// What a gate reads, and whether it is a root.
 #[derive(Clone, Copy, Debug)]
 struct Node {
-    count: u32,
     list: [u32; 4],
+    count: u8,
     is_root: bool,
 }
 
@@ -142,8 +142,8 @@ fn node_of(children: &[u32]) -> Node
         _ => [0; 4],
     };
     Node {
-        count: children.len() as u32,
         list,
+        count: children.len() as u8,
         is_root: false,
     }
 }

@@ -1,63 +1,67 @@
-ghost use Rattle.std.specs.Prelude.{◌≡◌, ◌+◌, ◌-◌, ◌<◌, ◌≤◌, ◌^◌, ℕ, All, count_by, drop, length, slice_index, slice_set, take, if◌then◌else◌, IfOk, vec_len};
+ghost use Rattle.std.specs.Prelude.{◌≡◌, ◌+◌, ◌<◌, ◌≤◌, ◌^◌, ◌||◌, ℕ, List, true, All, count_by, drop, length, slice_set, take, if◌then◌else◌, IfOk, vec_len};
+ghost use Rattle.pim_graph.specs.Graphs.{IsGraph, has};
 ghost use Rattle.pim_graph.specs.Peaks.{IsPlaced, needed, peak};
-ghost use Rattle.pim_graph.specs.Readers.{occurrences, still_needed};
+ghost use Rattle.pim_graph.specs.Readers.{occurrences};
+ghost use Rattle.pim_graph.specs.inner.Marks.{is_marked};
 
-use crate::{Graph, Readers};
+use crate::Graph;
 use pim_io::NoMemory;
 use std::alloc::Global;
 
-/// Takes back one read of a gate, and tells whether the gate is needed no longer: 1 or 0.
-fn take_read(graph: &Graph, left: &mut Readers, child: u32, earlier: &[u32]) -> u32
-    requires len { length left.old ≡ length graph.now.kids }
-    requires there { child < length graph.now.kids }
-    requires read { 1 ≤ slice_index left.old child }
-    requires once { occurrences earlier.now child ≡ 1 }
-    ensures left { left.new ≡ slice_set left.old child (slice_index left.old child - 1) }
-    ensures len { length left.new ≡ length graph.now.kids }
-    ensures freed { count_by (still_needed graph.now left.new) earlier.now + result
-        ≡ count_by (still_needed graph.now left.old) earlier.now }
+/// Marks for the roots of a graph.
+fn root_marks(alloc: Global, graph: &Graph) -> Result<Vec<bool>, NoMemory>
+    ensures marked { IfOk result (λ marks. (x : ℕ) → x < length graph.now.kids → is_marked marks.items x ≡ has graph.now.roots x) }
+    ensures len { IfOk result (λ marks. vec_len marks ≡ length graph.now.kids) }
+    ensures sound { IsGraph graph.now }
 {
-    left.take_back(child);
-    if !left.is_spent(child) {
+    let mut marks = vec![in alloc; false; graph.len() as usize]?;
+    for root in graph.roots() {
+        marks[*root as usize] = true;
+    }
+    Ok(marks)
+}
+
+/// How many of these gates are marked.
+fn count_marked(marks: &[bool], gates: &[u32]) -> u32
+    requires there { All (λ x. x < length marks.now) gates.now }
+    requires few { length gates.now < 2 ^ 28 }
+    ensures { result ≡ count_by (is_marked marks.now) gates.now }
+{
+    let mut count = 0;
+    for gate in gates {
+        count += u32::from(marks[*gate as usize]);
+    }
+    count
+}
+
+/// Marks a gate, and tells how many marks that makes more: 1 or 0.
+fn mark(marks: &mut Vec<bool>, gate: u32) -> u32
+    requires { gate < vec_len marks.old }
+    ensures marked { marks.new.items ≡ slice_set marks.old.items gate true }
+    ensures more { result ≡ (if is_marked marks.old.items gate then 0 else 1) }
+{
+    if marks[gate as usize] {
         return 0;
     }
-    if graph.is_root(child) {
-        return 0;
-    }
+    marks[gate as usize] = true;
     1
 }
 
-/// Takes back one gate's reads, and tells how many of the gates that it reads are needed no longer.
-fn release(graph: &Graph, left: &mut Readers, children: &[u32], earlier: &[u32]) -> u32
-    requires len { length left.old ≡ length graph.now.kids }
-    requires there { All (λ c. c < length graph.now.kids) children.now }
-    requires once { All (λ c. occurrences earlier.now c ≡ 1) children.now }
-    requires room { length earlier.now < 2 ^ 31 }
-    requires read { (x : ℕ) → x < length graph.now.kids → occurrences children.now x ≤ slice_index left.old x }
-    ensures left { (x : ℕ) → x < length graph.now.kids →
-        slice_index left.new x + occurrences children.now x ≡ slice_index left.old x }
-    ensures len { length left.new ≡ length graph.now.kids }
-    ensures freed { count_by (still_needed graph.now left.new) earlier.now + result
-        ≡ count_by (still_needed graph.now left.old) earlier.now }
+/// Marks what a gate reads, and tells how many marks that makes more among gates each of which it reads stands once.
+fn mark_reads(marks: &mut Vec<bool>, children: &[u32]) -> u32
+    requires there { All (λ c. c < vec_len marks.old) children.now }
+    requires few { length children.now ≤ 4 }
+    ensures marked { (x : ℕ) → x < vec_len marks.old → is_marked marks.new.items x ≡ (is_marked marks.old.items x || has children.now x) }
+    ensures len { vec_len marks.new ≡ vec_len marks.old }
+    ensures more { (earlier : List ℕ) → All (λ c. occurrences earlier c ≡ 1) children.now
+        → count_by (is_marked marks.new.items) earlier ≡ count_by (is_marked marks.old.items) earlier + result }
+    ensures few { result ≤ 4 }
 {
-    let mut freed = 0;
+    let mut more = 0;
     for child in children {
-        freed += take_read(graph, left, *child, earlier);
+        more += mark(marks, *child);
     }
-    freed
-}
-
-/// 1 where a gate is a root or has reads to come, and 0 where it is needed no longer.
-fn stays(graph: &Graph, left: &Readers, gate: u32) -> u32
-    requires len { length left.now ≡ length graph.now.kids }
-    requires there { gate < length graph.now.kids }
-    ensures { result ≡ (if still_needed graph.now left.now gate then 1 else 0) }
-{
-    if !left.is_spent(gate) || graph.is_root(gate) {
-        1
-    } else {
-        0
-    }
+    more
 }
 
 /// The greatest number of gates that an order holds at once: at each place the gate there, and each earlier one that is
@@ -69,13 +73,14 @@ pub fn peak(alloc: Global, graph: &Graph, order: &[u32]) -> Result<u32, NoMemory
         count_by (needed graph.now (drop p order.now)) (take p order.now) + 1 ≤ most) }
     ensures within { IfOk result (λ most. most ≤ length order.now) }
 {
-    let mut left = Readers::new(alloc, graph, order)?;
-    let mut held: u32 = 0;
-    let mut most: u32 = 0;
-    for (place, gate) in order.iter().enumerate() {
+    let mut marks = root_marks(alloc, graph)?;
+    let mut held = count_marked(&marks, order);
+    let mut most = 0;
+    for place in (0..order.len()).rev() {
+        let gate = order[place];
+        held -= u32::from(marks[gate as usize]);
+        held += mark_reads(&mut marks, graph.children(gate));
         most = most.max(held + 1);
-        held -= release(graph, &mut left, graph.children(*gate), &order[..place]);
-        held += stays(graph, &left, *gate);
     }
     Ok(most)
 }

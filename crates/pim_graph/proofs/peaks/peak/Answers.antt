@@ -1,57 +1,55 @@
-use Rattle.std.proofs.Common.{◌≡◌, ℕ, ◌+◌, [], max, length, take, drop, get_or, count_by, cond, ap, ◌∙◌, arith}
-use Rattle.std.proofs.lemmas.List.{length-take, take_more}
-use Rattle.std.proofs.lemmas.List.Sums.{count_by-le-length}
+use Rattle.std.proofs.Common.{◌≡◌, ℕ, ◌+◌, ◌-◌, List, Bool, [], max, take, drop, count_by, ap, subst, sym, ◌∙◌, arith}
 use Rattle.std.proofs.lemmas.Grind.{common_steps}
-use Rattle.pim_graph.specs.Peaks.{peak_from}
-use Rattle.pim_graph.specs.Readers.{still_needed}
-use Rattle.pim_graph.proofs.Peaking.{peak_bounds, peak_ends, peak_within}
-use Rattle.pim_graph.proofs.Placing.{length-placed, children_once, count_push, peak_step, take-All, reads_left}
+use Rattle.pim_graph.specs.inner.Marks.{is_marked}
+use Rattle.pim_graph.proofs.Marking.{IsHeld, held_back, held_ends, held_few, held_starts}
+use Rattle.pim_graph.proofs.Peaking.{peak_bounds, peak_within}
+use Rattle.pim_graph.proofs.Placing.{length-placed}
 use Rattle.pim_graph.proofs.peaks.peak.Goals as goal
+
+pub count_marked-held-requires-clause-few : goal.count_marked-held-requires-clause-few
+count_marked-held-requires-clause-few c =
+    omega (arith, length-placed c.args.graph.now c.args.order.now c.requires, c.root_marks.ensures.sound.gates_fit)
+
+pub loop-place-init : goal.loop-place-init
+loop-place-init c =
+    let placed = c.requires in
+    held_starts c.args.graph.now c.args.order.now c.in_ok-marks.marks.items c.count_marked-held.result placed (omega (arith, c.in_ok-marks.ensures.len)) c.in_ok-marks.ensures.marked (c.count_marked-held.ensures ∙ ap (λ (marks : List Bool). count_by (is_marked marks) c.args.order.now) c.deref.ensures.value)
 
 pub overflow_add-held : goal.overflow_add-held
 overflow_add-held c =
-    let a = count_by-le-length (still_needed c.args.graph.now c.loop-place.left) (take c.loop-place.place c.args.order.now) in
-    let b = length-take c.loop-place.place c.args.order.now in
-    let d = length-placed c.args.graph.now c.args.order.now c.requires in
-    omega (arith, c.loop-place.invariant.held, c.new.ensures.sound.gates_fit)
+    let few = held_few c.args.graph.now c.args.order.now c.loop-place.place c.loop-place.marks.items c.loop-place.held c.loop-place.most c.loop-place.auto.place c.loop-place.invariant in
+    omega (arith, length-placed c.args.graph.now c.args.order.now c.requires, c.root_marks.ensures.sound.gates_fit, c.mark_reads-held.ensures.few)
 
-pub release-held-requires-clause-once : goal.release-held-requires-clause-once
-release-held-requires-clause-once c = children_once c.args.graph.now c.args.order.now c.loop-place.place c.children.result.now c.requires c.loop-place-test.true c.children.ensures.list
-
-pub release-held-requires-clause-room : goal.release-held-requires-clause-room
-release-held-requires-clause-room c =
-    let b = length-take c.loop-place.place c.args.order.now in
-    let d = length-placed c.args.graph.now c.args.order.now c.requires in
-    omega (arith, c.new.ensures.sound.gates_fit)
+pub overflow_add-held-in-loop-place : goal.overflow_add-held-in-loop-place
+overflow_add-held-in-loop-place c =
+    let few = held_few c.args.graph.now c.args.order.now c.loop-place.place c.loop-place.marks.items c.loop-place.held c.loop-place.most c.loop-place.auto.place c.loop-place.invariant in
+    omega (arith, length-placed c.args.graph.now c.args.order.now c.requires, c.root_marks.ensures.sound.gates_fit, c.mark_reads-held.ensures.few)
 
 pub loop-place-preserved : goal.loop-place-preserved
 loop-place-preserved c =
     let g = c.args.graph.now in
     let order = c.args.order.now in
-    let p = c.loop-place.place in
-    let left = c.loop-place.left in
-    let new = c.release-held.new.left in
-    let n = length g.kids in
-    let pushed = ap (count_by (still_needed g new)) (take_more order p 0 c.loop-place-test.true) ∙ count_push (still_needed g new) (take p order) (get_or order p 0) in
-    let most_is : c.max-most.result ≡ max c.loop-place.most (c.loop-place.held + 1) = grind (arith, common_steps) in
-    let stay : c.stays-held.result ≡ cond (still_needed g new (get_or order p 0)) 1 0 = c.stays-held.ensures in
-    record {
-      rest = ap (λ (m : ℕ). max m (peak_from g (take (p + 1) order) (drop (p + 1) order))) most_is ∙ peak_step g order left p c.loop-place.most c.loop-place.held _ n c.loop-place-test.true (take-All order n p c.requires.there) c.loop-place.invariant.left.counts c.loop-place.invariant.held c.loop-place.invariant.rest;
-      held = omega (arith, c.release-held.ensures.freed, c.loop-place.invariant.held);
-      left = record {
-        len = c.release-held.ensures.len;
-        counts = reads_left g order p c.children.result.now left new n c.loop-place-test.true c.children.ensures.list c.loop-place.invariant.left.counts c.release-held.ensures.left;
-      };
-    }
+    let q = c.loop-place.place in
+    let old = c.loop-place.marks.items in
+    let new = c.mark_reads-held.new.marks.items in
+    let held = c.loop-place.held in
+    let one = c.from-held.result in
+    let more = c.mark_reads-held.result in
+    let most = c.loop-place.most in
+    let greatest : c.max-most.result ≡ max most (held - one + more + 1) = grind (arith, common_steps) in
+    let P : ℕ → Type 0 = λ n. IsHeld g (take (q - 1) order) (drop (q - 1) order) new (held - one + more) n in
+    subst P (sym greatest) (held_back g order q c.children.result.now old new held one more most c.requires c.loop-place-test.true c.loop-place.auto.place c.children.ensures.list c.loop-place.invariant (c.from-held.ensures ∙ grind (arith, common_steps)) (λ x l. c.mark_reads-held.ensures.marked x (omega arith)) (omega (arith, c.mark_reads-held.ensures.len)) c.mark_reads-held.ensures.more)
+
+pub returns-clause-peak : goal.returns-clause-peak
+returns-clause-peak c =
+    held_ends c.args.graph.now c.args.order.now c.loop-place.place c.loop-place.marks.items c.loop-place.held c.loop-place.most c.loop-place-test.false c.loop-place.invariant
 
 pub returns-clause-bounds : goal.returns-clause-bounds
 returns-clause-bounds c = λ p l.
-    let whole = peak_ends c.args.graph.now c.args.order.now c.loop-place.place c.loop-place.most _ c.loop-place-test.false c.loop-place.invariant.rest in
-    let most = peak_bounds c.args.graph.now [] c.args.order.now p l in
-    omega arith
+    let whole = held_ends c.args.graph.now c.args.order.now c.loop-place.place c.loop-place.marks.items c.loop-place.held c.loop-place.most c.loop-place-test.false c.loop-place.invariant in
+    omega (arith, peak_bounds c.args.graph.now [] c.args.order.now p l)
 
 pub returns-clause-within : goal.returns-clause-within
 returns-clause-within c =
-    let whole = peak_ends c.args.graph.now c.args.order.now c.loop-place.place c.loop-place.most _ c.loop-place-test.false c.loop-place.invariant.rest in
-    let most = peak_within c.args.graph.now [] c.args.order.now in
-    omega arith
+    let whole = held_ends c.args.graph.now c.args.order.now c.loop-place.place c.loop-place.marks.items c.loop-place.held c.loop-place.most c.loop-place-test.false c.loop-place.invariant in
+    omega (arith, peak_within c.args.graph.now [] c.args.order.now)
