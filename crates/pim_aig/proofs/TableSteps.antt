@@ -6,7 +6,7 @@ use Rattle.std.proofs.lemmas.List.{drop_more}
 use Rattle.pim_net.specs.Covers.{CoverView}
 use Rattle.pim_net.specs.Tables.{put}
 use Rattle.pim_net.specs.declared.parts.Equation.{Equation}
-use Rattle.pim_aig.specs.Chains.{Built, cover_from, rows_from}
+use Rattle.pim_aig.specs.Chains.{cover_from, rows_from}
 use Rattle.pim_aig.specs.inner.Tables.{AreOfFirst}
 use Rattle.pim_aig.specs.Graph.{IsOfFirst}
 use Rattle.pim_aig.specs.Faults.{Says}
@@ -43,11 +43,6 @@ pub inputs_from_more : (lits later : ℕ → Lit) (inputs : List ℕ) (k : ℕ) 
 inputs_from_more lits later inputs k l whole h written is rest =
     let s = get_or inputs k 0 in
     ap (λ (f : ℕ → Lit). inputs_from f (k + 1) (drop (k + 1) inputs)) written ∙ (ap (λ (x : Lit). inputs_from (put lits s x) (k + 1) (drop (k + 1) inputs)) is ∙ (ap (λ (ss : List ℕ). inputs_from lits k ss) (sym (drop_more inputs k 0 h)) ∙ rest))
-
--- one equation's literal
-pub equation_put : (lits later : ℕ → Lit) (s : ℕ) (l : Lit) (inputs : ℕ) (ands grown : List And) (e : Equation) → later ≡ put lits s l → s ≡ e.sig → record { ands = grown; lit = l } ≡ cover_from inputs lits ands e.cover → record { ands = grown; lits = later } ≡ equation_from inputs lits ands (Some e)
-equation_put lits later s l inputs ands grown e written is made =
-    ap (λ (f : ℕ → Lit). record { ands = grown; lits = f }) written ∙ (ap (λ (n : ℕ). record { ands = grown; lits = put lits n l }) is ∙ ap (λ (b : Built). record { ands = b.ands; lits = put lits e.sig b.lit }) made)
 
 -- the equations go on after one of them
 pub equations_step : (inputs later : ℕ) (equations : List Equation) (lits written : ℕ → Lit) (ands grown : List And) (topo : List ℕ) (i : ℕ) (o : Option Equation) (whole : Flattened) → i < length topo → slice_get equations (get_or topo i 0) ≡ o → later ≡ inputs → record { ands = grown; lits = written } ≡ equation_from inputs lits ands o → equations_from inputs equations lits ands (drop i topo) ≡ whole → equations_from later equations written grown (drop (i + 1) topo) ≡ whole

@@ -147,9 +147,6 @@ whole_same names inputs outputs covers cover w = record {
   cover_in = w.cover_in;
 }
 
-fine : {X : Type 0} → X → Result X BlifFault
-fine x = Ok x
-
 -- what is known with further inputs
 abbrev pub with_inputs : Known → List (List ℕ) → List ℕ → List (List ℕ) → Known
 with_inputs k names inputs labels = record k {

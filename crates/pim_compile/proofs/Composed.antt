@@ -1,7 +1,7 @@
 -- What the parts of a compilation say of one another gives what the whole says.
-use Rattle.std.proofs.Common.{◌≡◌, ◌⊎◌, ℕ, ◌+◌, ◌-◌, ◌<◌, ◌≤◌, min, Bool, true, false, if◌then◌else◌, List, [], ◌∷◌, ◌++◌, length, map, Option, Some, None, Result, Ok, Err, inl, inr, sym, ◌∙◌, ap, subst, arith}
+use Rattle.std.proofs.Common.{◌≡◌, ◌⊎◌, ℕ, ◌+◌, ◌-◌, ◌≤◌, min, Bool, true, false, if◌then◌else◌, List, [], ◌∷◌, ◌++◌, length, map, Option, Some, None, Result, Ok, Err, inl, inr, sym, ◌∙◌, ap, subst, arith}
 use Rattle.std.specs.Prelude.{All, IfOk, nat_le}
-use Rattle.std.proofs.lemmas.Bool.{le-leb, lt-leb}
+use Rattle.std.proofs.lemmas.Bool.{le-leb}
 use Rattle.std.proofs.lemmas.List.Elements.{All-append, All-cons, All-head, All-nil, All-tail}
 use Rattle.pim_aig.specs.Flat.{ands, flat}
 use Rattle.pim_aig.specs.Graph.{AigView}
@@ -30,7 +30,7 @@ use Rattle.pim_compile.specs.Cycles.{IsQuick, IsQuickBy, IsQuickTidy, TakesAt, T
 use Rattle.pim_compile.specs.Networks.{FollowsGraph, FollowsNetwork, FollowsSome, coarse_need, coarse_of, if_few, most_nors, need, need_of, networks_at, networks_of, nors_of_two, tidy_networks}
 use Rattle.pim_compile.specs.Refusals.{IsAccepted, IsEnough}
 use Rattle.pim_compile.specs.Targets.{OnMagic, OnPlim}
-use Rattle.pim_compile.specs.inner.Candidates.{IsBestOf, IsMagic, IsOfNetwork, IsPlaced, IsProgramOf, IsScheduleOf, IsTooWide, shorter}
+use Rattle.pim_compile.specs.inner.Candidates.{IsBestOf, IsMagic, IsOfNetwork, IsPlaced, IsProgramOf, IsScheduleOf, shorter}
 use Rattle.pim_compile.specs.inner.Fits.{program_of}
 use Rattle.pim_compile.specs.inner.Scheduled.{IsScheduled}
 use Rattle.pim_compile.specs.inner.Smart.{IsPlim}
@@ -86,13 +86,6 @@ candidate_best g w ports width budget (Ok f) network values fewer inputs schedul
 candidate_best g w ports width budget (Err e) network values fewer inputs scheduled = tt
 
 -- ---- of the tidied form those that have no more NORs
-
-pub too_many : (g : AigView) (w : NorView) (ports : PortsView) (width : Width) (most budget : ℕ) → w ≡ nors g width → most < nor_count w.gates → IsBestOf g ports most budget (if_few most (nors g width)) None
-too_many g w ports width most budget network more =
-    let F : NorView → Type 0 = λ x. most < nor_count x.gates in
-    let is : nat_le (nor_count (nors g width).gates) most ≡ false = lt-leb (nor_count (nors g width).gates) most (subst F network more) in
-    let B : Bool → Type 0 = λ b. IsBestOf g ports most budget (if b then nors g width ∷ [] else []) None in
-    subst B (sym is) (All-nil (IsTooWide budget))
 
 pub few_enough : (g : AigView) (w : NorView) (ports : PortsView) (width : Width) (most budget : ℕ) (r : Option ProgramView) → w ≡ nors g width → HasOuts g w → nor_count w.gates ≤ most → length ports.inputs ≡ g.inputs →
     IsScheduleOf w ports budget r → IsBestOf g ports most budget (if_few most (nors g width)) r
@@ -173,11 +166,6 @@ of_tidy_two Q g all few =
     let is : nat_le (nor_count w.gates) (most_nors g) ≡ true = le-leb (nor_count w.gates) (most_nors g) few in
     let L : Bool → Type 0 = λ b. All Q (if b then w ∷ [] else []) in
     All-head Q w [] (subst L is there)
-
-flat_too : (effort : Level) (Q : NorView → Type 0) (g : AigView) → All Q (networks_at effort g) → All Q (networks_of g)
-flat_too level.Zero Q g all = all
-flat_too level.One Q g all = All-behind Q (tidy_networks g) (networks_of g) all
-flat_too level.Two Q g all = All-behind Q (tidy_networks g) (networks_of g) all
 
 -- above level 0 the networks of the tidied form come first
 pub above_zero : (effort : Level) (g : AigView) → (effort ≡ level.One) ⊎ (effort ≡ level.Two) → networks_at effort g ≡ tidy_networks g ++ networks_of g

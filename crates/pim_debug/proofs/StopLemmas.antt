@@ -179,21 +179,6 @@ pub record IsRunning (last before at : ℕ) (stops : List (Option ℕ)) (is_ther
   pub going : is_there ≡ false → at < last
   pub left : is_there ≡ false → next_stop (last - at) at stops ≡ next_stop (last - before) before stops
 
-pub running_start : (last before : ℕ) (stops : List (Option ℕ)) (is_there : Bool) → before ≤ last → is_there ≡ eqb before last →
-    IsRunning last before before stops is_there
-running_start last before stops is_there fits test = record {
-  above = omega arith;
-  within = fits;
-  there = λ e.
-      let same : before ≡ last = eqb-true before last (sym test ∙ e) in
-      let none : last - before ≡ 0 = omega arith in
-      omega arith ∙ ap (λ (n : ℕ). next_stop n before stops) (sym none);
-  going = λ e.
-      let other : before ≢ last = eqb-false before last (sym test ∙ e) in
-      omega arith;
-  left = λ e. refl;
-}
-
 -- the position after the next instruction is where the run ends, if a breakpoint stands there
 pub next_stop-found : (last at : ℕ) (stops : List (Option ℕ)) → at < last → has_stop (at + 1) stops ≡ true →
     next_stop (last - at) at stops ≡ at + 1

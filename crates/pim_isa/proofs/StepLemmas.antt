@@ -6,12 +6,11 @@ use Rattle.std.proofs.lemmas.Bool.{eqb-true, eqb-false, cases_Bool}
 use Rattle.std.proofs.lemmas.List.{length-set, get_or-set_same, get_or-set_other}
 use Rattle.std.proofs.lemmas.List.Elements.{All-head, All-tail}
 use Rattle.pim_isa.specs.declared.instr.Ins.{Ins}
-use Rattle.pim_isa.specs.declared.instr.Operand.{Operand}
 use Rattle.pim_isa.specs.declared.instr.Instr.{Instr}
 use Rattle.pim_isa.specs.declared.instr.Instr.TheVariants.{Init, Nor, Rm3}
 use Rattle.pim_isa.specs.Touches.{operands, writes}
 use Rattle.pim_isa.specs.Validity.{has}
-use Rattle.pim_isa.specs.Steps.{bit, value, majority, set_ones, step, exec}
+use Rattle.pim_isa.specs.Steps.{bit, set_ones, step, exec}
 use Rattle.pim_isa.proofs.SoundLemmas.{or_falses}
 
 set_elsewhere : (m : List Bool) (t c : ℕ) (b : Bool) → eqb t c ≡ false → bit (set m t b) c ≡ bit m c
@@ -58,8 +57,3 @@ exec_elsewhere (i ∷ is) m c apart =
 pub nor_there : (m : List Bool) (t : ℕ) (ins : Ins) → t < length m →
     bit (step m (Nor t ins)) t ≡ (bit m t && not (list_any (bit m) (operands ins)))
 nor_there m t ins small = get_or-set_same m t _ false small
-
--- the cell that an Rm3 writes
-pub rm3_there : (m : List Bool) (p q : Operand) (z : ℕ) → z < length m →
-    bit (step m (Rm3 p q z)) z ≡ majority (value m p) (not (value m q)) (bit m z)
-rm3_there m p q z small = get_or-set_same m z _ false small

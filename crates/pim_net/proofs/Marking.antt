@@ -77,16 +77,6 @@ trail_into es table root marks f g trail t opened within fresh inside reads star
   t,
 )
 
-pub trail_start : (es : List Equation) (table : ℕ → Driver) (root : ℕ) (f : Frame) → root < length es → f.equation ≡ root → f.column ≡ 0 → f.depth ≡ 0 → IsTrail es table root (f ∷ [])
-trail_start es table root f within named start shallow = (
-  record {
-    known = subst (λ n. n < length es) (sym named) within;
-    within = omega arith;
-    depth = ap (λ n. deepest (map (deep es table) (take n (ins es f.equation)))) start ∙ ap Some (sym shallow);
-  },
-  named,
-)
-
 apart_top : (es : List Equation) (table : ℕ → Driver) (root : ℕ) (f : Frame) (trail : List Frame) → IsTrail es table root (f ∷ trail) → IsOffTrail f.equation trail
 apart_top es table root f [] t = tt
 apart_top es table root f (g ∷ trail) t = t.3
@@ -122,9 +112,6 @@ marks_done es table root marks f trail wired old t all =
       below = each_below (count_by is_deep marks) (count_by is_deep (set marks k y)) trail (omega (arith, deeps)) old.below.1;
       counted = omega (arith, old.counted, deeps, news);
     }
-
-pub trail_done : (es : List Equation) (table : ℕ → Driver) (root : ℕ) (f g : Frame) (trail : List Frame) → IsTrail es table root (f ∷ g ∷ trail) → IsTrail es table root (g ∷ trail)
-trail_done es table root f g trail t = t.4
 
 -- a depth that the marks tell is the depth
 pub marked_is : (es : List Equation) (table : ℕ → Driver) (marks : List Mark) (trail : List Frame) (c d : ℕ) → IsWired es table → IsMarked es table marks trail → marked_depth marks (table c) ≡ Some d → (deep es table c ≡ Some d) × (d ≤ count_by is_deep marks)

@@ -1,6 +1,6 @@
 -- Rows that are cut from one list of cells.
-use Rattle.std.proofs.Common.{◌≡◌, ℕ, zero, suc, ◌+◌, ◌*◌, ◌<◌, ◌≤◌, List, [], ◌∷◌, ◌++◌, Some, length, get_or, take, drop, refl, ap, ◌∙◌, arith, length-drop, length-take-le}
-use Rattle.std.specs.Prelude.{All, slice_get}
+use Rattle.std.proofs.Common.{◌≡◌, ℕ, zero, suc, ◌+◌, ◌*◌, ◌<◌, ◌≤◌, List, [], ◌∷◌, ◌++◌, Some, length, take, drop, refl, ap, ◌∙◌, arith, length-drop}
+use Rattle.std.specs.Prelude.{slice_get}
 use Rattle.std.proofs.lemmas.List.{take-append-le, drop-append-le, take_all, drop-drop}
 use Rattle.std.proofs.Math.Nat.{mul-le-mul_left}
 use Rattle.pim_net.specs.declared.cover.Bit3.{Bit3}
@@ -33,14 +33,3 @@ rows_of-at width (suc count) cells (suc k) within =
 -- a row in range ends within the cells
 pub row_fits : (k count width : ℕ) → k < count → k * width + width ≤ count * width
 row_fits k count width within = omega (arith, mul-le-mul_left width (let h : suc k ≤ count = omega arith in h))
-
--- whole rows are each as wide as the columns
-pub rows_of-whole : (width count : ℕ) (cells : List Bit3) → length cells ≡ count * width → All (λ row. length row ≡ width) (rows_of width count cells)
-rows_of-whole width count cells filled = λ k d within. at_each width count cells filled k d within
-  where
-    at_each : (width count : ℕ) (cells : List Bit3) → length cells ≡ count * width → (k : ℕ) (d : List Bit3) → k < length (rows_of width count cells) → length (get_or (rows_of width count cells) k d) ≡ width
-    at_each width zero cells filled k d within = absurd (omega arith)
-    at_each width (suc count) cells filled zero d within =
-        length-take-le width cells (let fits : width ≤ length cells = omega arith in fits)
-    at_each width (suc count) cells filled (suc k) d within =
-        at_each width count (drop width cells) (omega (arith, length-drop width cells)) k d (omega arith)

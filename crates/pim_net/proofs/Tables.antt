@@ -29,9 +29,6 @@ put_same table x v =
 put_other : (table : ℕ → Driver) (x s : ℕ) (v : Driver) → s ≢ x → put table x v s ≡ table s
 put_other table x s v apart = ap (λ b. cond b v (table s)) (eqb_off s x apart)
 
-push_first : (b : Bool) (p : Option ℕ) → cond b p None ≡ option_or None (cond b p None)
-push_first b p = refl
-
 push_later : (b c : Bool) (p first : Option ℕ) (n : ℕ) → cond b (Some 0) (option_map suc (option_or p (cond c (Some n) None))) ≡ option_or (cond b (Some 0) (option_map suc p)) (cond c (Some (suc n)) None)
 push_later true c p first n = refl
 push_later false c (Some k) first n = refl

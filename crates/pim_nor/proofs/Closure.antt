@@ -103,9 +103,6 @@ reached-stays gate zero marks t h l = refl
 reached-stays gate (suc n) marks t h l =
     reached-stays gate n (cond (get_or marks n false) (mark_all marks (pins (gate n))) marks) t (λ s b. h s (omega arith)) (omega arith) ∙ cond-stays (get_or marks n false) marks (pins (gate n)) n t (h n (omega arith)) (omega arith)
 
-abbrev Widen : (ps : List Pin) (m n : ℕ) → Type 0
-Widen ps m n = AreInputsOrFirst m ps → AreInputsOrFirst n ps
-
 pub AreInputsOrFirst-le : (ps : List Pin) (m n : ℕ) → m ≤ n → AreInputsOrFirst m ps → AreInputsOrFirst n ps
 AreInputsOrFirst-le [] m n l h = tt
 AreInputsOrFirst-le (Input j ∷ ps) m n l h = (tt, AreInputsOrFirst-le ps m n l h.1)

@@ -47,6 +47,3 @@ same_if_shown (b ∷ text) h =
     let first = label_byte_same b (grind (arith, nat_tests)) in
     let rest = same_if_shown text (grind (arith, nat_tests)) in
     cc
-
-pub label_same : (text : List ℕ) → IsLabel text → label text ≡ text
-label_same text h = same_if_shown text (shown_all text h.shown)

@@ -57,11 +57,6 @@ ports_before_end : {I : Type 0} (none : Bool) (d : Parts I) → is_ended (ports_
 ports_before_end true d = refl
 ports_before_end false d = refl
 
--- behind the first line
-first_before_end : (t : Option Target) → is_ended (behind_first t) ≡ false
-first_before_end None = refl
-first_before_end (Some only) = refl
-
 module _ {I : Type 0} (kind : Kind I) (laws : ReadLines) (lack : LackNewlines) (is_kind : IsKind kind) where
   -- a last piece without a newline, before `end`
   last_piece : (number place : ℕ) (r : Reading I) (bytes : List ℕ) → is_ended r.section ≡ false → read_from kind any_size r (last_line number place bytes) ≡ Err faults.Truncated

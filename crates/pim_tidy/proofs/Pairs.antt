@@ -3,7 +3,7 @@ use Rattle.std.proofs.Common.{◌≡◌, ◌⊎◌, ℕ, suc, ◌+◌, ◌<◌, 
 use Rattle.std.specs.List.{list_any, position_or_len}
 use Rattle.std.proofs.lemmas.Bool.{false≢true}
 use Rattle.std.proofs.lemmas.Bool.Decides.{nat_tests, eqb_tells}
-use Rattle.std.proofs.lemmas.List.{map-append, length-map}
+use Rattle.std.proofs.lemmas.List.{length-map}
 use Rattle.pim_aig.specs.declared.graph.And.{And}
 use Rattle.pim_tidy.specs.declared.pair.Pair.{Pair}
 use Rattle.pim_tidy.specs.Tidied.{place_of, same_operands}
@@ -114,12 +114,6 @@ pub keys_found : (p : Pair → Bool) (keys after : List Pair) (ands : List And) 
 keys_found p keys after ands k place same is new h =
     let count : length keys ≡ length ands = ap (λ (xs : List Pair). length xs) same ∙ length-map ands pair_of in
     new ∙ ap (λ (v : Bool). cond v keys (keys ++ k ∷ [])) (any_at p keys (omega arith)) ∙ same
-
-pub keys_new : (p : Pair → Bool) (keys after : List Pair) (ands : List And) (a : And) (k : Pair) (place : ℕ) → keys ≡ map pair_of ands → place ≡ position_or_len p keys → after ≡ cond (list_any p keys) keys (keys ++ k ∷ []) → k ≡ pair_of a → place ≡ length ands → after ≡ map pair_of (ands ++ a ∷ [])
-keys_new p keys after ands a k place same is new key h =
-    let count : length keys ≡ length ands = ap (λ (xs : List Pair). length xs) same ∙ length-map ands pair_of in
-    new ∙ ap (λ (v : Bool). cond v keys (keys ++ k ∷ [])) (none_at p keys (omega arith))
-    ∙ ap (λ (xs : List Pair). xs ++ k ∷ []) same ∙ ap (λ (q : Pair). map pair_of ands ++ q ∷ []) key ∙ sym (map-append pair_of ands (a ∷ []))
 
 -- the fields of a key are those of the node's operands
 pub key_tests : (k : Pair) (a : And) → k ≡ pair_of a → (b : And) → (eqb k.low (pair_of b).low && eqb k.high (pair_of b).high) ≡ same_operands b a

@@ -83,12 +83,6 @@ option_cases : (o : Option Lit) → (o ≡ None) ⊎ ((l : Lit) × (o ≡ Some l
 option_cases None = inl refl
 option_cases (Some l) = inr (l, refl)
 
-moves : (inputs : ℕ) (ands : List And) (a : And) (new m : List And) (l k : Lit) → new ≡ m → l ≡ k → Joins inputs ands a new l → Joins inputs ands a m k
-moves inputs ands a new m l k e f j =
-    let P : List And → Type 0 = λ x. Joins inputs ands a x l in
-    let Q : Lit → Type 0 = λ x. Joins inputs ands a m x in
-    subst Q f (subst P e j)
-
 pub joins : (inputs : ℕ) (ands : List And) (a : And) → Joins inputs ands a (joined inputs ands a).ands (joined inputs ands a).lit
 joins inputs ands a = elim (option_cases (folded a.x a.y)) [
   | inr s ↦

@@ -41,13 +41,6 @@ told_then (Some x) None c old mid new first second = absurd first
 told_then (Some x) (Some y) None old mid new first second = absurd second
 told_then (Some x) (Some y) (Some z) old mid new first second = second ∙ first
 
-pub told_same : (a : Option (List ℕ)) (old : List ℕ) → Told a a (λ x y. old ++ y ≡ old ++ x)
-told_same None old = tt
-told_same (Some x) old = refl
-
-pub took_none : (v : LinesView) (a : Option (List ℕ)) → Took v a a v
-took_none v a = record { longest = refl; given = refl; place = refl; bytes = told_same a v.held }
-
 pub took_then : (u v w : LinesView) (a b c : Option (List ℕ)) → Took u a b v → Took v b c w → Took u a c w
 took_then u v w a b c first second = record {
   longest = second.longest ∙ first.longest;
