@@ -22,40 +22,13 @@ use Rattle.pim_rewrite.proofs.Views.View.{a_case, no_case}
 
 -- ---- laws of the majority
 turn_first : (a b c : Bool) → majority a b c ≡ majority b a c
-turn_first true true c = refl
-turn_first true false true = refl
-turn_first true false false = refl
-turn_first false true true = refl
-turn_first false true false = refl
-turn_first false false c = refl
+turn_first a b c = grind arith
 
 turn_last : (a b c : Bool) → majority a b c ≡ majority a c b
-turn_last a true true = refl
-turn_last true true false = refl
-turn_last false true false = refl
-turn_last true false true = refl
-turn_last false false true = refl
-turn_last a false false = refl
+turn_last a b c = grind arith
 
 distributes : (s t u v w : Bool) → majority (majority s t u) (majority s t v) w ≡ majority s t (majority u v w)
-distributes true true u v w = refl
-distributes false false u v w = refl
-distributes true false true true true = refl
-distributes true false true true false = refl
-distributes true false true false true = refl
-distributes true false true false false = refl
-distributes true false false true true = refl
-distributes true false false true false = refl
-distributes true false false false true = refl
-distributes true false false false false = refl
-distributes false true true true true = refl
-distributes false true true true false = refl
-distributes false true true false true = refl
-distributes false true true false false = refl
-distributes false true false true true = refl
-distributes false true false true false = refl
-distributes false true false false true = refl
-distributes false true false false false = refl
+distributes s t u v w = grind arith
 
 -- ---- the value of the node whose operands are shared, and of the other one
 match_value : (f : Lit → Bool) (a b : Maj) (w : Lit) (c : Case) → Matches a b w c → majority (f a.x) (f a.y) (f a.z) ≡ majority (f c.s) (f c.t) (f c.u)
