@@ -1,9 +1,9 @@
-ghost use Rattle.std.specs.Prelude.{◌≡◌, ◌*◌, ◌^◌, ◌<◌, ◌≤◌, ◌++◌, ◌∷◌, [], All, flat_map, length, map, IfOk, OnOk, vec_len, Option, ℕ, List};
+ghost use Rattle.std.specs.Prelude.{◌≡◌, ◌*◌, ◌^◌, ◌<◌, ◌++◌, ◌∷◌, [], All, map, IfOk, OnOk, Option};
 ghost use Rattle.std.specs.List.{range_with_len};
 ghost use Rattle.pim_mig.specs.Graph.{size};
 ghost use Rattle.pim_rm3.specs.Steps.{mig_gates, mig_graph, step_of};
 ghost use Rattle.pim_rm3.specs.inner.Operands.{StepsBelow};
-ghost use Rattle.pim_rm3.specs.Temporaries.{all_reads, full_graph, full_order, full_over, gate_number, gate_read, own_temporary, step_reads, step_takes, takes_of, temporary_of, temporary_takes, with_temporary};
+ghost use Rattle.pim_rm3.specs.Temporaries.{all_reads, full_graph, full_order, full_over, gate_read, own_temporary, step_reads, step_takes, temporary_of, temporary_takes};
 
 use crate::mig_graph::literals;
 use crate::role::temporary;
