@@ -362,9 +362,23 @@ pub made_value : (g : MigView) (bits : List Bool) (nodes : List Maj) (m : Maj) �
 made_value g bits nodes m laws count front =
     answer_value g bits nodes m (made g.inputs nodes m).nodes (made g.inputs nodes m).lit laws count front (answers g.inputs nodes m)
 
+pub front_refl : (nodes : List Maj) → IsFront nodes nodes
+front_refl nodes = record { few = omega arith; same = λ k d h. refl }
+
+answer_front : (inputs : ℕ) (nodes : List Maj) (m : Maj) (new : List Maj) (l : Lit) → Answer inputs nodes m new l → IsFront nodes new
+answer_front inputs nodes m new l (by_rule f e) = subst (IsFront nodes) (sym e) (front_refl nodes)
+answer_front inputs nodes m new l (by_node f p h e s w) = subst (IsFront nodes) (sym e) (front_refl nodes)
+answer_front inputs nodes m new l (by_new f n e w) =
+    let whole : IsFront nodes (nodes ++ m ∷ []) = record { few = omega (arith, length-append nodes (m ∷ [])); same = λ k d h. get_or_append_left nodes (m ∷ []) d k h } in
+    subst (IsFront nodes) (sym e) whole
+
+pub made_front : (inputs : ℕ) (nodes : List Maj) (m : Maj) → IsFront nodes (made inputs nodes m).nodes
+made_front inputs nodes m = answer_front inputs nodes m (made inputs nodes m).nodes (made inputs nodes m).lit (answers inputs nodes m)
+
 pub node_laws : NodeLaws
 node_laws = record {
   answers = answers;
+  fronts = made_front;
   operands = operands;
   rules = λ m l h. rule_operand m l (rule m l h);
   values = made_value;
@@ -410,9 +424,6 @@ mig_push g m sound x y z room plain new =
       ];
       outputs_there = λ k d h. let b = sound.outputs_there k d h in omega arith;
     }
-
-pub front_refl : (nodes : List Maj) → IsFront nodes nodes
-front_refl nodes = record { few = omega arith; same = λ k d h. refl }
 
 -- the value of a literal that was made, in the graph after that
 pub value_after : (g : MigView) (bits : List Bool) (inputs : ℕ) (nodes : List Maj) (m : Maj) (l : Lit) → MajorityLaws g → length bits ≡ inputs → g.inputs ≡ inputs → g.nodes ≡ (made inputs nodes m).nodes → l ≡ (made inputs nodes m).lit → mval g bits l ≡ of_node g bits m

@@ -11,30 +11,19 @@ use Rattle.pim_aig.specs.Values.{aval, node_values as and_values}
 use Rattle.pim_aig.specs.declared.graph.And.{And}
 use Rattle.pim_aig.specs.declared.literal.Lit.{Lit}
 use Rattle.pim_mig.specs.Graph.{MigView}
-use Rattle.pim_mig.specs.Laws.{Answer, IsFront, MajorityLaws}
-use Rattle.pim_mig.specs.Laws.Answer.{by_new, by_node, by_rule}
+use Rattle.pim_mig.specs.Laws.{IsFront, MajorityLaws}
 use Rattle.pim_mig.specs.Majs.{after, begun, maj_of, Making, majs_from, making}
 use Rattle.pim_aig.specs.Moving.{moved}
 use Rattle.pim_mig.specs.Nodes.{made}
 use Rattle.pim_mig.specs.Values.{majority, mval, node_values}
 use Rattle.pim_mig.specs.declared.node.Maj.{Maj}
-use Rattle.pim_mig.proofs.Answers.{answers, front_refl, made_value}
+use Rattle.pim_mig.proofs.Answers.{front_refl, made_front, made_value}
 
 pub front_both : (a b c : List Maj) → IsFront a b → IsFront b c → IsFront a c
 front_both a b c f g = record {
   few = omega (arith, f.few, g.few);
   same = λ k d h. g.same k d (omega (arith, f.few)) ∙ f.same k d h;
 }
-
-answer_front : (inputs : ℕ) (nodes : List Maj) (m : Maj) (new : List Maj) (l : Lit) → Answer inputs nodes m new l → IsFront nodes new
-answer_front inputs nodes m new l (by_rule f e) = subst (IsFront nodes) (sym e) (front_refl nodes)
-answer_front inputs nodes m new l (by_node f p h e s w) = subst (IsFront nodes) (sym e) (front_refl nodes)
-answer_front inputs nodes m new l (by_new f n e w) =
-    let whole : IsFront nodes (nodes ++ m ∷ []) = record { few = omega (arith, length-append nodes (m ∷ [])); same = λ k d h. get_or_append_left nodes (m ∷ []) d k h } in
-    subst (IsFront nodes) (sym e) whole
-
-made_front : (inputs : ℕ) (nodes : List Maj) (m : Maj) → IsFront nodes (made inputs nodes m).nodes
-made_front inputs nodes m = answer_front inputs nodes m (made inputs nodes m).nodes (made inputs nodes m).lit (answers inputs nodes m)
 
 rest_front : (inputs : ℕ) (st : Making) (rest : List And) → IsFront st.nodes (majs_from inputs st rest).nodes
 rest_front inputs st [] = front_refl st.nodes

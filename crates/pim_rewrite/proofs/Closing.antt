@@ -16,7 +16,7 @@ use Rattle.pim_mig.specs.Nodes.{made, same_operands}
 use Rattle.pim_mig.specs.declared.node.Maj.{Maj}
 use Rattle.pim_rewrite.specs.Passes.{after, passed_from, Step, stepped}
 use Rattle.pim_rewrite.proofs.Counting.{counted_is, in_list}
-use Rattle.pim_rewrite.proofs.Frame.{AtNode, bool_cases, lits_count, made_front, none, one_if, operand_times, ops, output_needed, positive, begun_count}
+use Rattle.pim_rewrite.proofs.Frame.{AtNode, bool_cases, lits_count, none, one_if, operand_times, ops, output_needed, positive, begun_count}
 use Rattle.pim_rewrite.proofs.Values.{AreRest, at_rest, rest_all, rest_next}
 
 abbrev zero_lit : Lit
@@ -138,7 +138,7 @@ answer_closed laws inputs nodes m new l live c front asked (by_new f n e w) =
 
 pub made_closed : (laws : NodeLaws) (inputs : ℕ) (nodes : List Maj) (m : Maj) (live : List ℕ) → IsClosed inputs nodes live → ((i : ℕ) → 0 < times i (ops m) → IsLive inputs live i) → IsClosed inputs (made inputs nodes m).nodes (node (made inputs nodes m).lit ∷ live)
 made_closed laws inputs nodes m live c asked =
-    answer_closed laws inputs nodes m (made inputs nodes m).nodes (made inputs nodes m).lit live c (made_front laws inputs nodes m) asked (laws.answers inputs nodes m)
+    answer_closed laws inputs nodes m (made inputs nodes m).nodes (made inputs nodes m).lit live c (laws.fronts inputs nodes m) asked (laws.answers inputs nodes m)
 
 -- ---- a whole pass
 -- the literals of needed nodes that are not gone are live

@@ -1,16 +1,14 @@
 -- What each pass keeps: the nodes that are made stay, each old node gets a literal, and what needed nodes read is needed.
-use Rattle.std.proofs.Common.{◌≡◌, ◌⊎◌, ℕ, zero, suc, ◌+◌, ◌<◌, ◌≤◌, Bool, true, false, cond, eqb, ltb, List, [], ◌∷◌, ◌++◌, length, get_or, map, refl, sym, ◌∙◌, ap, subst, arith, inl, inr, length-append}
+use Rattle.std.proofs.Common.{◌≡◌, ◌⊎◌, ℕ, zero, suc, ◌+◌, ◌<◌, ◌≤◌, Bool, true, false, cond, eqb, ltb, List, [], ◌∷◌, ◌++◌, length, get_or, map, refl, sym, ◌∙◌, ap, arith, inl, inr, length-append}
 use Rattle.std.proofs.lemmas.Bool.Decides.{nat_tests, eqb_tells}
 use Rattle.std.proofs.lemmas.List.FromFn.{length-map-range_with_len}
 use Rattle.std.proofs.lemmas.List.{get_or_append_left}
 use Rattle.pim_aig.specs.Literals.{node, plain}
 use Rattle.pim_aig.specs.declared.literal.Lit.{Lit}
 use Rattle.pim_mig.specs.Graph.{IsMig, MigView}
-use Rattle.pim_mig.specs.Laws.{Answer, IsFront, NodeLaws}
-use Rattle.pim_mig.specs.Laws.Answer.{by_new, by_node, by_rule}
+use Rattle.pim_mig.specs.Laws.{IsFront}
 use Rattle.pim_mig.specs.Majs.{begun, Making}
 use Rattle.pim_mig.specs.Needs.{all_reads, is_needed, named, reads, reads_from, times}
-use Rattle.pim_mig.specs.Nodes.{made}
 use Rattle.pim_mig.specs.declared.node.Maj.{Maj}
 use Rattle.pim_rewrite.specs.Passes.{after, passed_from, Step, stepped}
 
@@ -46,16 +44,6 @@ front_both a b c f g = record {
   few = omega (arith, f.few, g.few);
   same = λ k d h. g.same k d (omega (arith, f.few)) ∙ f.same k d h;
 }
-
-answer_front : (inputs : ℕ) (nodes : List Maj) (m : Maj) (new : List Maj) (l : Lit) → Answer inputs nodes m new l → IsFront nodes new
-answer_front inputs nodes m new l (by_rule f e) = subst (IsFront nodes) (sym e) (front_refl nodes)
-answer_front inputs nodes m new l (by_node f p h e s w) = subst (IsFront nodes) (sym e) (front_refl nodes)
-answer_front inputs nodes m new l (by_new f n e w) =
-    let whole : IsFront nodes (nodes ++ m ∷ []) = record { few = omega (arith, length-append nodes (m ∷ [])); same = λ k d h. get_or_append_left nodes (m ∷ []) d k h } in
-    subst (IsFront nodes) (sym e) whole
-
-pub made_front : (laws : NodeLaws) (inputs : ℕ) (nodes : List Maj) (m : Maj) → IsFront nodes (made inputs nodes m).nodes
-made_front laws inputs nodes m = answer_front inputs nodes m (made inputs nodes m).nodes (made inputs nodes m).lit (laws.answers inputs nodes m)
 
 -- a step after which all nodes are there still
 pub record Grows (step : Step) : Type 0 where

@@ -12,7 +12,7 @@ use Rattle.pim_mig.specs.Values.{majority, mval}
 use Rattle.pim_mig.specs.declared.node.Maj.{Maj}
 use Rattle.pim_rewrite.specs.Cases.{inner, node_at, other, outer, spread}
 use Rattle.pim_rewrite.specs.declared.cases.Case.{Case}
-use Rattle.pim_rewrite.proofs.Frame.{AtNode, front_both, made_front}
+use Rattle.pim_rewrite.proofs.Frame.{AtNode, front_both}
 use Rattle.pim_rewrite.proofs.Gone.{IsKept, kept, spreads}
 use Rattle.pim_rewrite.proofs.Values.{AreTwo, AreValued, by_three, KeepsValues, moved_value, old_value, plain_values, value_in}
 use Rattle.pim_rewrite.proofs.Views.{at_single, IsCase, lit_is, Matches, matches, node_apart, shares, single, Single, Taken, taken_operands, View, view}
@@ -155,7 +155,7 @@ spread_value g t bits st k m e f w c two at len v is front =
     let keep = kept g k m e f w c two.sound at is in
     let d = made g.inputs st.nodes (inner st.lits c) in
     let out = made g.inputs d.nodes (outer st.lits c d.lit) in
-    let front_d = front_both d.nodes out.nodes t.nodes (made_front two.laws g.inputs d.nodes (outer st.lits c d.lit)) front in
+    let front_d = front_both d.nodes out.nodes t.nodes (two.laws.fronts g.inputs d.nodes (outer st.lits c d.lit)) front in
     let val_d : mval t bits d.lit ≡ majority (mval g bits c.u) (mval g bits c.v) (mval g bits c.w) =
     value_in g t bits st.nodes (inner st.lits c) two front_d
     ∙ by_three (mval t bits (moved st.lits c.u)) (mval t bits (moved st.lits c.v)) (mval t bits (moved st.lits c.w)) (mval g bits c.u) (mval g bits c.v) (mval g bits c.w)

@@ -1,4 +1,4 @@
-ghost use Rattle.std.specs.Prelude.{◌≡◌, ◌+◌, ◌*◌, ◌<◌, ◌≤◌, [], All, true, List, length, map, IfOk, OnOk};
+ghost use Rattle.std.specs.Prelude.{◌≡◌, ◌+◌, ◌*◌, ◌<◌, ◌≤◌, [], All, true, length, map, IfOk, OnOk};
 ghost use Rattle.pim_aig.specs.Graph.{IsOfFirst};
 ghost use Rattle.pim_aig.specs.declared.graph.TheConstants.{MAX_OUTPUTS};
 ghost use Rattle.pim_mig.specs.Graph.{size};
