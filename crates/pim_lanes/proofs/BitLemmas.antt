@@ -1,46 +1,24 @@
 -- The bits of a word that is computed from others.
-use Rattle.std.proofs.Common.{◌≡◌, ℕ, zero, suc, ◌-◌, ◌^◌, ◌<◌, min, max, Bool, true, false, ◌&&◌, ◌||◌, not, eqb, refl, ap, ◌∙◌, arith, bit_and, bit_or}
-use Rattle.std.specs.Int.{bit_at, w64}
+use Rattle.std.proofs.Common.{◌≡◌, ℕ, ◌-◌, ◌^◌, ◌<◌, Bool, true, false, ◌&&◌, ◌||◌, not, eqb, ap, ◌∙◌, arith, bit_and, bit_or}
+use Rattle.std.specs.Int.{w64}
+use Rattle.std.proofs.lemmas.Bool.Decides.{nat_tests}
 use Rattle.std.proofs.lemmas.Nat.{or_lt}
 use Rattle.std.proofs.lemmas.Nat.Bits.{bit_at-lt, bit_at_and, bit_at_or, bit_at_not, bit_at_ones, bit_at-zero}
 use Rattle.pim_isa.specs.Steps.{majority}
 use Rattle.pim_io.specs.Lanes.{is_set}
 use Rattle.pim_lanes.specs.inner.Rules.{complement, nor1_word, nor2_word, rm3_word}
 
-both_one : (x y : ℕ) → x < 2 → y < 2 → eqb (min x y) 1 ≡ (eqb x 1 && eqb y 1)
-both_one zero zero p q = refl
-both_one zero (suc zero) p q = refl
-both_one zero (suc (suc y)) p q = absurd (omega arith)
-both_one (suc zero) zero p q = refl
-both_one (suc zero) (suc zero) p q = refl
-both_one (suc zero) (suc (suc y)) p q = absurd (omega arith)
-both_one (suc (suc x)) y p q = absurd (omega arith)
-
-some_one : (x y : ℕ) → x < 2 → y < 2 → eqb (max x y) 1 ≡ (eqb x 1 || eqb y 1)
-some_one zero zero p q = refl
-some_one zero (suc zero) p q = refl
-some_one (suc zero) zero p q = refl
-some_one (suc zero) (suc zero) p q = refl
-some_one zero (suc (suc y)) p q = absurd (omega arith)
-some_one (suc zero) (suc (suc y)) p q = absurd (omega arith)
-some_one (suc (suc x)) y p q = absurd (omega arith)
-
-other_one : (x : ℕ) → x < 2 → eqb (1 - x) 1 ≡ not (eqb x 1)
-other_one zero p = refl
-other_one (suc zero) p = refl
-other_one (suc (suc x)) p = absurd (omega arith)
-
 pub is_set-and : (a b i : ℕ) → is_set (bit_and a b) i ≡ (is_set a i && is_set b i)
 unfolding is_set
-is_set-and a b i = ap (λ n. eqb n 1) (bit_at_and a b i) ∙ both_one (bit_at a i) (bit_at b i) (bit_at-lt a i) (bit_at-lt b i)
+is_set-and a b i = grind (arith, nat_tests, bit_at_and, bit_at-lt)
 
 pub is_set-or : (a b i : ℕ) → is_set (bit_or a b) i ≡ (is_set a i || is_set b i)
 unfolding is_set
-is_set-or a b i = ap (λ n. eqb n 1) (bit_at_or a b i) ∙ some_one (bit_at a i) (bit_at b i) (bit_at-lt a i) (bit_at-lt b i)
+is_set-or a b i = grind (arith, nat_tests, bit_at_or, bit_at-lt)
 
 pub is_set-complement : (n i : ℕ) → n < 2 ^ 64 → i < 64 → is_set (complement n) i ≡ not (is_set n i)
 unfolding is_set
-is_set-complement n i small within = ap (λ m. eqb m 1) (bit_at_not w64 n i small within) ∙ other_one (bit_at n i) (bit_at-lt n i)
+is_set-complement n i small within = grind (arith, nat_tests, bit_at_not w64 n i small within, bit_at-lt)
 
 pub is_set-ones : (i : ℕ) → i < 64 → is_set (2 ^ 64 - 1) i ≡ true
 unfolding is_set
@@ -61,14 +39,7 @@ nor2_bit t a b i small_a small_b within =
     ∙ ap (λ (x : Bool). is_set t i && not x) (is_set-or a b i)
 
 majority_is : (p n z : Bool) → ((p && n) || (z && (p || n))) ≡ majority p n z
-majority_is true true true = refl
-majority_is true true false = refl
-majority_is true false true = refl
-majority_is true false false = refl
-majority_is false true true = refl
-majority_is false true false = refl
-majority_is false false true = refl
-majority_is false false false = refl
+majority_is p n z = grind arith
 
 pub rm3_bit : (z p q i : ℕ) → p < 2 ^ 64 → q < 2 ^ 64 → i < 64 → is_set (rm3_word z p q) i ≡ majority (is_set p i) (not (is_set q i)) (is_set z i)
 rm3_bit z p q i small_p small_q within =

@@ -1,6 +1,8 @@
 -- The laws of nodes that are made.
 use Rattle.std.proofs.Common.{◌≡◌, ◌≢◌, ◌⊎◌, ℕ, zero, suc, ◌+◌, ◌-◌, ◌*◌, ◌/◌, ◌%◌, ◌<◌, ◌≤◌, min, max, Bool, true, false, cond, eqb, not, ◌&&◌, ◌||◌, List, [], ◌∷◌, ◌++◌, length, get_or, Option, Some, None, refl, sym, ◌∙◌, ap, subst, arith, inl, inr, length-append}
 use Rattle.std.proofs.lemmas.Bool.Decides.{nat_tests, eqb_tells}
+use Rattle.std.proofs.lemmas.List.{get_or_append_left}
+use Rattle.std.proofs.Math.Seq.{get_or-append_seam}
 use Rattle.pim_aig.specs.Literals.{complement, plain}
 use Rattle.pim_aig.specs.declared.literal.Lit.{Lit}
 use Rattle.pim_mig.specs.Graph.{IsApart, IsMig, MigView, size}
@@ -275,20 +277,10 @@ operands a b l same h =
 
 -- ---- values
 turn_first : (a b c : Bool) → majority a b c ≡ majority b a c
-turn_first true true c = refl
-turn_first true false true = refl
-turn_first true false false = refl
-turn_first false true true = refl
-turn_first false true false = refl
-turn_first false false c = refl
+turn_first a b c = grind arith
 
 turn_last : (a b c : Bool) → majority a b c ≡ majority a c b
-turn_last a true true = refl
-turn_last true true false = refl
-turn_last false true false = refl
-turn_last true false true = refl
-turn_last false false true = refl
-turn_last a false false = refl
+turn_last a b c = grind arith
 
 -- the majority of what three numbers stand for
 abbrev of_three : (ℕ → Bool) → ℕ → ℕ → ℕ → Bool
@@ -320,15 +312,10 @@ same_value g bits a b h =
     ∙ sorted_value v b.x.0 b.y.0 b.z.0 (least b) (middle b) (greatest b) (order_of b)
 
 two_same : (a b : Bool) → a ≡ majority a a b
-two_same true b = refl
-two_same false true = refl
-two_same false false = refl
+two_same a b = grind arith
 
 two_other : (a b : Bool) → b ≡ majority a (not a) b
-two_other true true = refl
-two_other true false = refl
-two_other false true = refl
-two_other false false = refl
+two_other a b = grind arith
 
 rule_value : (g : MigView) (bits : List Bool) (m : Maj) (l : Lit) → MajorityLaws g → Rule m l → mval g bits l ≡ of_node g bits m
 rule_value g bits m l laws (xy_same a b) =
@@ -353,15 +340,6 @@ rule_value g bits m l laws (yz_other a b) =
     ∙ turn_last (mval g bits m.y) (not (mval g bits m.y)) (mval g bits m.x) ∙ turn_first (mval g bits m.y) (mval g bits m.x) (not (mval g bits m.y))
     ∙ ap (λ (v : Bool). majority (mval g bits m.x) (mval g bits m.y) v) (sym (laws.complements (node_values g bits) m.y) ∙ ap (mval g bits) a)
 
-pub get_or_front : (xs ys : List Maj) (k : ℕ) (d : Maj) → k < length xs → get_or (xs ++ ys) k d ≡ get_or xs k d
-get_or_front [] ys k d h = absurd (omega arith)
-get_or_front (x ∷ xs) ys zero d h = refl
-get_or_front (x ∷ xs) ys (suc k) d h = get_or_front xs ys k d (omega arith)
-
-pub get_or_last : (xs : List Maj) (x d : Maj) → get_or (xs ++ x ∷ []) (length xs) d ≡ x
-get_or_last [] x d = refl
-get_or_last (y ∷ ys) x d = get_or_last ys x d
-
 abbrev none : Maj
 none = record { x = record { 0 = 0 }; y = record { 0 = 0 }; z = record { 0 = 0 } }
 
@@ -377,16 +355,30 @@ answer_value g bits nodes m new l laws count front (by_node f p h e s w) =
 answer_value g bits nodes m new l laws count front (by_new f n e w) =
     let len = ap (λ (xs : List Maj). length xs) e in
     let more = length-append nodes (m ∷ []) in
-    let at : get_or g.nodes (length nodes) none ≡ m = front.same (length nodes) none (omega arith) ∙ ap (λ (xs : List Maj). get_or xs (length nodes) none) e ∙ get_or_last nodes m none in
+    let at : get_or g.nodes (length nodes) none ≡ m = front.same (length nodes) none (omega arith) ∙ ap (λ (xs : List Maj). get_or xs (length nodes) none) e ∙ get_or-append_seam nodes m [] none in
     ap (mval g bits) w ∙ place_value g bits (length nodes) m laws count (omega (arith, front.few)) at
 
 pub made_value : (g : MigView) (bits : List Bool) (nodes : List Maj) (m : Maj) → MajorityLaws g → length bits ≡ g.inputs → IsFront (made g.inputs nodes m).nodes g.nodes → mval g bits (made g.inputs nodes m).lit ≡ of_node g bits m
 made_value g bits nodes m laws count front =
     answer_value g bits nodes m (made g.inputs nodes m).nodes (made g.inputs nodes m).lit laws count front (answers g.inputs nodes m)
 
+pub front_refl : (nodes : List Maj) → IsFront nodes nodes
+front_refl nodes = record { few = omega arith; same = λ k d h. refl }
+
+answer_front : (inputs : ℕ) (nodes : List Maj) (m : Maj) (new : List Maj) (l : Lit) → Answer inputs nodes m new l → IsFront nodes new
+answer_front inputs nodes m new l (by_rule f e) = subst (IsFront nodes) (sym e) (front_refl nodes)
+answer_front inputs nodes m new l (by_node f p h e s w) = subst (IsFront nodes) (sym e) (front_refl nodes)
+answer_front inputs nodes m new l (by_new f n e w) =
+    let whole : IsFront nodes (nodes ++ m ∷ []) = record { few = omega (arith, length-append nodes (m ∷ [])); same = λ k d h. get_or_append_left nodes (m ∷ []) d k h } in
+    subst (IsFront nodes) (sym e) whole
+
+pub made_front : (inputs : ℕ) (nodes : List Maj) (m : Maj) → IsFront nodes (made inputs nodes m).nodes
+made_front inputs nodes m = answer_front inputs nodes m (made inputs nodes m).nodes (made inputs nodes m).lit (answers inputs nodes m)
+
 pub node_laws : NodeLaws
 node_laws = record {
   answers = answers;
+  fronts = made_front;
   operands = operands;
   rules = λ m l h. rule_operand m l (rule m l h);
   values = made_value;
@@ -394,7 +386,7 @@ node_laws = record {
 
 -- ---- one node more
 at_end : (nodes : List Maj) (m d : Maj) (k : ℕ) → k ≡ length nodes → get_or (nodes ++ m ∷ []) k d ≡ m
-at_end nodes m d k e = ap (λ (i : ℕ). get_or (nodes ++ m ∷ []) i d) e ∙ get_or_last nodes m d
+at_end nodes m d k e = ap (λ (i : ℕ). get_or (nodes ++ m ∷ []) i d) e ∙ get_or-append_seam nodes m [] d
 
 -- what holds of each node, and of one more
 each_more : (P : ℕ → Maj → Type 0) (nodes : List Maj) (m : Maj) → ((k : ℕ) (d : Maj) → k < length nodes → P k (get_or nodes k d)) → P (length nodes) m → (k : ℕ) (d : Maj) → k < length (nodes ++ m ∷ []) → P k (get_or (nodes ++ m ∷ []) k d)
@@ -404,7 +396,7 @@ each_more P nodes m each here k d h =
       | inl e ↦
           let Q : ℕ → Type 0 = λ i. P i m in
           subst (P k) (sym (at_end nodes m d k e.1)) (subst Q (sym e.1) here)
-      | inr o ↦ let l : k < length nodes = omega (arith, o.1) in subst (P k) (sym (get_or_front nodes (m ∷ []) k d l)) (each k d l)
+      | inr o ↦ let l : k < length nodes = omega (arith, o.1) in subst (P k) (sym (get_or_append_left nodes (m ∷ []) d k l)) (each k d l)
     ]
 
 -- a graph with one node more, which reads what is there and what no other node reads
@@ -423,18 +415,15 @@ mig_push g m sound x y z room plain new =
       once = λ j k d before h. elim (eqb_tells k (length g.nodes)) [
         | inl e ↦
             let l : j < length g.nodes = omega (arith, e.1) in
-            ap (λ (n : Maj). same_operands n (get_or (g.nodes ++ m ∷ []) k d)) (get_or_front g.nodes (m ∷ []) j d l)
+            ap (λ (n : Maj). same_operands n (get_or (g.nodes ++ m ∷ []) k d)) (get_or_append_left g.nodes (m ∷ []) d j l)
             ∙ ap (same_operands (get_or g.nodes j d)) (at_end g.nodes m d k e.1) ∙ none j d l
         | inr o ↦
             let l : k < length g.nodes = omega (arith, o.1) in
-            ap (λ (n : Maj). same_operands n (get_or (g.nodes ++ m ∷ []) k d)) (get_or_front g.nodes (m ∷ []) j d (omega arith))
-            ∙ ap (same_operands (get_or g.nodes j d)) (get_or_front g.nodes (m ∷ []) k d l) ∙ sound.once j k d before l
+            ap (λ (n : Maj). same_operands n (get_or (g.nodes ++ m ∷ []) k d)) (get_or_append_left g.nodes (m ∷ []) d j (omega arith))
+            ∙ ap (same_operands (get_or g.nodes j d)) (get_or_append_left g.nodes (m ∷ []) d k l) ∙ sound.once j k d before l
       ];
       outputs_there = λ k d h. let b = sound.outputs_there k d h in omega arith;
     }
-
-pub front_refl : (nodes : List Maj) → IsFront nodes nodes
-front_refl nodes = record { few = omega arith; same = λ k d h. refl }
 
 -- the value of a literal that was made, in the graph after that
 pub value_after : (g : MigView) (bits : List Bool) (inputs : ℕ) (nodes : List Maj) (m : Maj) (l : Lit) → MajorityLaws g → length bits ≡ inputs → g.inputs ≡ inputs → g.nodes ≡ (made inputs nodes m).nodes → l ≡ (made inputs nodes m).lit → mval g bits l ≡ of_node g bits m

@@ -2,6 +2,8 @@
 use Rattle.std.proofs.Common.{◌≡◌, ℕ, zero, suc, ◌+◌, ◌/◌, ◌%◌, ◌<◌, Bool, true, false, cond, not, ◌&&◌, List, [], ◌∷◌, ◌++◌, length, get_or, map, refl, sym, ◌∙◌, ap, subst, arith, inl, inr, length-append}
 use Rattle.std.proofs.lemmas.Bool.Decides.{eqb_tells}
 use Rattle.std.proofs.lemmas.List.FromFn.{get_or-map-range_with_len, length-map-range_with_len}
+use Rattle.std.proofs.lemmas.List.{get_or_append_left}
+use Rattle.std.proofs.Math.Seq.{get_or-append_seam}
 use Rattle.pim_aig.specs.Graph.{AigView, IsAig}
 use Rattle.pim_aig.specs.Laws.{ValueLaws}
 use Rattle.pim_aig.specs.Literals.{complement, plain}
@@ -9,30 +11,19 @@ use Rattle.pim_aig.specs.Values.{aval, node_values as and_values}
 use Rattle.pim_aig.specs.declared.graph.And.{And}
 use Rattle.pim_aig.specs.declared.literal.Lit.{Lit}
 use Rattle.pim_mig.specs.Graph.{MigView}
-use Rattle.pim_mig.specs.Laws.{Answer, IsFront, MajorityLaws}
-use Rattle.pim_mig.specs.Laws.Answer.{by_new, by_node, by_rule}
+use Rattle.pim_mig.specs.Laws.{IsFront, MajorityLaws}
 use Rattle.pim_mig.specs.Majs.{after, begun, maj_of, Making, majs_from, making}
 use Rattle.pim_aig.specs.Moving.{moved}
 use Rattle.pim_mig.specs.Nodes.{made}
 use Rattle.pim_mig.specs.Values.{majority, mval, node_values}
 use Rattle.pim_mig.specs.declared.node.Maj.{Maj}
-use Rattle.pim_mig.proofs.Answers.{answers, front_refl, get_or_front, made_value}
+use Rattle.pim_mig.proofs.Answers.{front_refl, made_front, made_value}
 
 pub front_both : (a b c : List Maj) → IsFront a b → IsFront b c → IsFront a c
 front_both a b c f g = record {
   few = omega (arith, f.few, g.few);
   same = λ k d h. g.same k d (omega (arith, f.few)) ∙ f.same k d h;
 }
-
-answer_front : (inputs : ℕ) (nodes : List Maj) (m : Maj) (new : List Maj) (l : Lit) → Answer inputs nodes m new l → IsFront nodes new
-answer_front inputs nodes m new l (by_rule f e) = subst (IsFront nodes) (sym e) (front_refl nodes)
-answer_front inputs nodes m new l (by_node f p h e s w) = subst (IsFront nodes) (sym e) (front_refl nodes)
-answer_front inputs nodes m new l (by_new f n e w) =
-    let whole : IsFront nodes (nodes ++ m ∷ []) = record { few = omega (arith, length-append nodes (m ∷ [])); same = λ k d h. get_or_front nodes (m ∷ []) k d h } in
-    subst (IsFront nodes) (sym e) whole
-
-made_front : (inputs : ℕ) (nodes : List Maj) (m : Maj) → IsFront nodes (made inputs nodes m).nodes
-made_front inputs nodes m = answer_front inputs nodes m (made inputs nodes m).nodes (made inputs nodes m).lit (answers inputs nodes m)
 
 rest_front : (inputs : ℕ) (st : Making) (rest : List And) → IsFront st.nodes (majs_from inputs st rest).nodes
 rest_front inputs st [] = front_refl st.nodes
@@ -94,22 +85,13 @@ with_false true false = refl
 with_false false true = refl
 with_false false false = refl
 
-lit_front : (xs ys : List Lit) (k : ℕ) (d : Lit) → k < length xs → get_or (xs ++ ys) k d ≡ get_or xs k d
-lit_front [] ys k d h = absurd (omega arith)
-lit_front (x ∷ xs) ys zero d h = refl
-lit_front (x ∷ xs) ys (suc k) d h = lit_front xs ys k d (omega arith)
-
-lit_last : (xs : List Lit) (x d : Lit) → get_or (xs ++ x ∷ []) (length xs) d ≡ x
-lit_last [] x d = refl
-lit_last (y ∷ ys) x d = lit_last ys x d
-
 valued_push : (g : AigView) (t : MigView) (bits : List Bool) (lits : List Lit) (l : Lit) → AreValued g t bits lits → mval t bits l ≡ aval g bits (plain (length lits)) → AreValued g t bits (lits ++ l ∷ [])
 valued_push g t bits lits l v h = record {
   each = λ m d k. elim (eqb_tells m (length lits)) [
-    | inl e ↦ ap (λ (i : ℕ). mval t bits (get_or (lits ++ l ∷ []) i d)) e.1 ∙ ap (mval t bits) (lit_last lits l d) ∙ h ∙ ap (λ (i : ℕ). aval g bits (plain i)) (sym e.1)
+    | inl e ↦ ap (λ (i : ℕ). mval t bits (get_or (lits ++ l ∷ []) i d)) e.1 ∙ ap (mval t bits) (get_or-append_seam lits l [] d) ∙ h ∙ ap (λ (i : ℕ). aval g bits (plain i)) (sym e.1)
     | inr o ↦
         let b : m < length lits = omega (arith, o.1, length-append lits (l ∷ [])) in
-        ap (mval t bits) (lit_front lits (l ∷ []) m d b) ∙ v.each m d b
+        ap (mval t bits) (get_or_append_left lits (l ∷ []) d m b) ∙ v.each m d b
   ];
 }
 

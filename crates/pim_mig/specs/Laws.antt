@@ -33,10 +33,12 @@ pub data Answer (inputs : ℕ) (nodes : List Maj) (m : Maj) (new : List Maj) (l 
 abbrev pub IsOperand : Lit → Maj → Type 0
 IsOperand l m = (l ≡ m.x) ⊎ ((l ≡ m.y) ⊎ (l ≡ m.z))
 
--- of each node that is made: the answer is one of these, nodes that read the same three have the same operands, what a majority is
--- without a node is one of its operands, and in a graph that begins with the nodes the literal's value is the majority
+-- of each node that is made: the answer is one of these, the nodes before it are there still, nodes that read the same three have the
+-- same operands, what a majority is without a node is one of its operands, and in a graph that begins with the nodes the literal's
+-- value is the majority
 pub record NodeLaws : Type 0 where
   pub answers : (inputs : ℕ) (nodes : List Maj) (m : Maj) → Answer inputs nodes m (made inputs nodes m).nodes (made inputs nodes m).lit
+  pub fronts : (inputs : ℕ) (nodes : List Maj) (m : Maj) → IsFront nodes (made inputs nodes m).nodes
   pub operands : (a b : Maj) (l : Lit) → same_operands a b ≡ true → IsOperand l a → IsOperand l b
   pub rules : (m : Maj) (l : Lit) → simplified m ≡ Some l → IsOperand l m
   pub values : (g : MigView) (bits : List Bool) (nodes : List Maj) (m : Maj) → MajorityLaws g → length bits ≡ g.inputs → IsFront (made g.inputs nodes m).nodes g.nodes → mval g bits (made g.inputs nodes m).lit ≡ majority (mval g bits m.x) (mval g bits m.y) (mval g bits m.z)

@@ -1,62 +1,27 @@
 -- The bits of words, and the digits of the numbers of 64 vectors that follow one another.
-use Rattle.std.proofs.Common.{◌≡◌, ℕ, zero, suc, ◌+◌, ◌-◌, ◌*◌, ◌/◌, ◌%◌, ◌^◌, ◌<◌, ◌≤◌, min, max, Bool, true, false, ◌&&◌, ◌||◌, not, eqb, refl, sym, ap, subst, ◌∙◌, arith, bit_and, bit_or}
+use Rattle.std.proofs.Common.{◌≡◌, ℕ, zero, suc, ◌+◌, ◌-◌, ◌*◌, ◌/◌, ◌%◌, ◌^◌, ◌<◌, ◌≤◌, Bool, true, false, ◌&&◌, ◌||◌, eqb, refl, sym, ap, subst, ◌∙◌, arith, bit_and, bit_or}
 use Rattle.std.specs.Prelude.{bit_xor}
-use Rattle.std.specs.Int.{bit_at, w64}
+use Rattle.std.specs.Int.{bit_at}
 use Rattle.std.specs.List.{list_all, range_with_len}
 use Rattle.std.proofs.Math.Nat.{div-div-eq-div-mul}
 use Rattle.std.proofs.lemmas.Bool.{and_parts, eqb-true, ne_eqb}
+use Rattle.std.proofs.lemmas.Bool.Decides.{nat_tests}
 use Rattle.std.proofs.lemmas.Nat.{pow-add}
-use Rattle.std.proofs.lemmas.Nat.Bits.{bit_at-lt, bit_at_and, bit_at_or, bit_at_xor, bit_at_not, bit_at_ones, bit_at-zero, bit_at_lowest, shr_and_one}
+use Rattle.std.proofs.lemmas.Nat.Bits.{bit_at-lt, bit_at_and, bit_at_or, bit_at_xor, bit_at_ones, bit_at-zero, bit_at_lowest, shr_and_one}
 use Rattle.pim_io.specs.Lanes.{is_set}
 use Rattle.pim_prove.specs.inner.Comparing.{are_unlike}
 
-both_one : (x y : ℕ) → x < 2 → y < 2 → eqb (min x y) 1 ≡ (eqb x 1 && eqb y 1)
-both_one zero zero p q = refl
-both_one zero (suc zero) p q = refl
-both_one zero (suc (suc y)) p q = absurd (omega arith)
-both_one (suc zero) zero p q = refl
-both_one (suc zero) (suc zero) p q = refl
-both_one (suc zero) (suc (suc y)) p q = absurd (omega arith)
-both_one (suc (suc x)) y p q = absurd (omega arith)
-
-some_one : (x y : ℕ) → x < 2 → y < 2 → eqb (max x y) 1 ≡ (eqb x 1 || eqb y 1)
-some_one zero zero p q = refl
-some_one zero (suc zero) p q = refl
-some_one (suc zero) zero p q = refl
-some_one (suc zero) (suc zero) p q = refl
-some_one zero (suc (suc y)) p q = absurd (omega arith)
-some_one (suc zero) (suc (suc y)) p q = absurd (omega arith)
-some_one (suc (suc x)) y p q = absurd (omega arith)
-
-one_alone : (x y : ℕ) → x < 2 → y < 2 → eqb ((x + y) % 2) 1 ≡ are_unlike (eqb x 1) (eqb y 1)
-one_alone zero zero p q = refl
-one_alone zero (suc zero) p q = refl
-one_alone zero (suc (suc y)) p q = absurd (omega arith)
-one_alone (suc zero) zero p q = refl
-one_alone (suc zero) (suc zero) p q = refl
-one_alone (suc zero) (suc (suc y)) p q = absurd (omega arith)
-one_alone (suc (suc x)) y p q = absurd (omega arith)
-
-other_one : (x : ℕ) → x < 2 → eqb (1 - x) 1 ≡ not (eqb x 1)
-other_one zero p = refl
-other_one (suc zero) p = refl
-other_one (suc (suc x)) p = absurd (omega arith)
-
 pub is_set-and : (a b i : ℕ) → is_set (bit_and a b) i ≡ (is_set a i && is_set b i)
 unfolding is_set
-is_set-and a b i = ap (λ n. eqb n 1) (bit_at_and a b i) ∙ both_one (bit_at a i) (bit_at b i) (bit_at-lt a i) (bit_at-lt b i)
+is_set-and a b i = grind (arith, nat_tests, bit_at_and, bit_at-lt)
 
 pub is_set-or : (a b i : ℕ) → is_set (bit_or a b) i ≡ (is_set a i || is_set b i)
 unfolding is_set
-is_set-or a b i = ap (λ n. eqb n 1) (bit_at_or a b i) ∙ some_one (bit_at a i) (bit_at b i) (bit_at-lt a i) (bit_at-lt b i)
+is_set-or a b i = grind (arith, nat_tests, bit_at_or, bit_at-lt)
 
 pub is_set-xor : (a b i : ℕ) → is_set (bit_xor a b) i ≡ are_unlike (is_set a i) (is_set b i)
 unfolding is_set
-is_set-xor a b i = ap (λ n. eqb n 1) (bit_at_xor a b i) ∙ one_alone (bit_at a i) (bit_at b i) (bit_at-lt a i) (bit_at-lt b i)
-
-pub is_set-not : (n i : ℕ) → n < 2 ^ 64 → i < 64 → is_set (2 ^ 64 - 1 - n) i ≡ not (is_set n i)
-unfolding is_set
-is_set-not n i small within = ap (λ m. eqb m 1) (bit_at_not w64 n i small within) ∙ other_one (bit_at n i) (bit_at-lt n i)
+is_set-xor a b i = grind (arith, nat_tests, bit_at_xor, bit_at-lt)
 
 pub is_set-ones : (i : ℕ) → i < 64 → is_set (2 ^ 64 - 1) i ≡ true
 unfolding is_set

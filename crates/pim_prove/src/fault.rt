@@ -1,10 +1,9 @@
 use crate::unset::Unset;
-use pim_aig::FlatFault;
 use pim_io::NoMemory;
 use thiserror::Error;
 
-/// Why a program is not compared with a netlist: the first of these that applies. The last one may come in place of each but `Ports`
-/// and `Inputs`, which are told before memory is taken.
+/// Why a program is not compared with a netlist: the first of these that applies, as `refusal_of` says, or the last one, which may
+/// come in place of any.
 #[derive(Clone, Copy, Debug, PartialEq, Eq, Error)]
 pub enum ProveFault {
     /// The program has not as many inputs as the netlist, or not as many outputs.
@@ -20,7 +19,7 @@ pub enum ProveFault {
     Nodes,
 
     /// The program uses a cell that is no input before it is written, or an output lies in such a cell at the end: the first such use,
-    /// as `first_unset` tells it.
+    /// as `unset_of` tells it.
     #[error("the program uses a cell before it is set")]
     NotClean(Unset),
 

@@ -1,4 +1,4 @@
-ghost use Rattle.std.specs.Prelude.{◌≡◌, ◌↔◌, IfOk, IsNone, None};
+ghost use Rattle.std.specs.Prelude.{◌≡◌, ◌↔◌, IfOk, IsNone};
 ghost use Rattle.pim_prove.specs.Clean.{IsClean, unset_of};
 ghost use Rattle.pim_prove.specs.Steady.{IsSteady};
 

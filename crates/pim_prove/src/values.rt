@@ -1,4 +1,4 @@
-ghost use Rattle.std.specs.Prelude.{◌≡◌, ℕ, ◌+◌, ◌*◌, ◌≤◌, ◌<◌, ◌^◌, [], ◌∷◌, ◌++◌, length, slice_index, OnOk};
+ghost use Rattle.std.specs.Prelude.{◌≡◌, ℕ, ◌+◌, ◌*◌, ◌≤◌, ◌<◌, ◌^◌, [], ◌++◌, slice_index, OnOk};
 ghost use Rattle.pim_aig.specs.Values.{literal_value, values_from};
 ghost use Rattle.pim_io.specs.Lanes.{is_set};
 ghost use Rattle.pim_prove.specs.Vectors.{digits};

@@ -2,6 +2,8 @@
 use Rattle.std.proofs.Common.{◌≡◌, ◌⊎◌, ℕ, zero, suc, ◌+◌, ◌-◌, ◌/◌, ◌%◌, ◌<◌, ◌≤◌, Bool, true, false, cond, eqb, ltb, List, [], ◌∷◌, ◌++◌, length, get_or, map, refl, sym, ◌∙◌, ap, subst, arith, inl, inr, length-append}
 use Rattle.std.proofs.lemmas.Bool.Decides.{eqb_tells}
 use Rattle.std.proofs.lemmas.List.FromFn.{get_or-map-range_with_len, length-map-range_with_len}
+use Rattle.std.proofs.lemmas.List.{get_or_append_left}
+use Rattle.std.proofs.Math.Seq.{get_or-append_seam}
 use Rattle.pim_aig.specs.Literals.{complement, node, plain}
 use Rattle.pim_aig.specs.declared.literal.Lit.{Lit}
 use Rattle.pim_mig.specs.Graph.{IsMig, MigView}
@@ -14,7 +16,7 @@ use Rattle.pim_mig.specs.Nodes.{made, same_operands}
 use Rattle.pim_mig.specs.declared.node.Maj.{Maj}
 use Rattle.pim_rewrite.specs.Passes.{after, passed_from, Step, stepped}
 use Rattle.pim_rewrite.proofs.Counting.{counted_is, in_list}
-use Rattle.pim_rewrite.proofs.Frame.{AtNode, bool_cases, get_or_last, lit_front, lit_last, lits_count, made_front, none, one_if, operand_times, ops, output_needed, positive, begun_count}
+use Rattle.pim_rewrite.proofs.Frame.{AtNode, bool_cases, lits_count, none, one_if, operand_times, ops, output_needed, positive, begun_count}
 use Rattle.pim_rewrite.proofs.Values.{AreRest, at_rest, rest_all, rest_next}
 
 abbrev zero_lit : Lit
@@ -130,13 +132,13 @@ answer_closed laws inputs nodes m new l live c front asked (by_new f n e w) =
     closed_add inputs nodes new live (node l) c front (omega arith)
     (λ k d i there is o.
     let k_is : k ≡ length nodes = omega arith in
-    let n_is : get_or new k d ≡ m = ap (λ (xs : List Maj). get_or xs k d) e ∙ ap (λ (j : ℕ). get_or (nodes ++ m ∷ []) j d) k_is ∙ get_or_last nodes m d in
+    let n_is : get_or new k d ≡ m = ap (λ (xs : List Maj). get_or xs k d) e ∙ ap (λ (j : ℕ). get_or (nodes ++ m ∷ []) j d) k_is ∙ get_or-append_seam nodes m [] d in
     let in_m = ap (λ (x : Maj). times i (ops x)) n_is in
     asked i (omega arith))
 
 pub made_closed : (laws : NodeLaws) (inputs : ℕ) (nodes : List Maj) (m : Maj) (live : List ℕ) → IsClosed inputs nodes live → ((i : ℕ) → 0 < times i (ops m) → IsLive inputs live i) → IsClosed inputs (made inputs nodes m).nodes (node (made inputs nodes m).lit ∷ live)
 made_closed laws inputs nodes m live c asked =
-    answer_closed laws inputs nodes m (made inputs nodes m).nodes (made inputs nodes m).lit live c (made_front laws inputs nodes m) asked (laws.answers inputs nodes m)
+    answer_closed laws inputs nodes m (made inputs nodes m).nodes (made inputs nodes m).lit live c (laws.fronts inputs nodes m) asked (laws.answers inputs nodes m)
 
 -- ---- a whole pass
 -- the literals of needed nodes that are not gone are live
@@ -206,13 +208,13 @@ after_covered step g gone extra st live m n len cov =
       each = λ i d h needed not_gone. elim (eqb_tells i (length st.lits)) [
         | inl e ↦
             let at : i ≡ n = e.1 ∙ len in
-            let is : get_or (st.lits ++ l ∷ []) i d ≡ l = ap (λ (j : ℕ). get_or (st.lits ++ l ∷ []) j d) e.1 ∙ lit_last st.lits l d in
+            let is : get_or (st.lits ++ l ∷ []) i d ≡ l = ap (λ (j : ℕ). get_or (st.lits ++ l ∷ []) j d) e.1 ∙ get_or-append_seam st.lits l [] d in
             let P : Lit → Type 0 = λ x. IsLive g.inputs now (node x) in
             subst P (sym is) (here_live step extra st live m (is_needed g n) (gone n) g.inputs (ap (is_needed g) (sym at) ∙ needed) (ap gone (sym at) ∙ not_gone))
         | inr o ↦
             let b : i < length st.lits = omega (arith, o.1, length-append st.lits (l ∷ [])) in
             let P : Lit → Type 0 = λ x. IsLive g.inputs now (node x) in
-            subst P (sym (lit_front st.lits (l ∷ []) i d b)) (live_grows (is_needed g n) (gone n) step extra st live m g.inputs (node (get_or st.lits i d)) (cov.each i d b needed not_gone))
+            subst P (sym (get_or_append_left st.lits (l ∷ []) d i b)) (live_grows (is_needed g n) (gone n) step extra st live m g.inputs (node (get_or st.lits i d)) (cov.each i d b needed not_gone))
       ];
     }
 

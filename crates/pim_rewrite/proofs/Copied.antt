@@ -1,8 +1,9 @@
 -- The copy of a graph in normal form, but for what is not needed, is in normal form.
 use Rattle.std.proofs.Common.{◌≡◌, ◌≢◌, ℕ, suc, ◌+◌, ◌-◌, ◌/◌, ◌%◌, ◌<◌, Bool, true, false, cond, eqb, ◌||◌, List, [], ◌∷◌, ◌++◌, length, get_or, Option, Some, None, refl, sym, ◌∙◌, ap, subst, arith, inl, inr, length-append}
 use Rattle.std.proofs.lemmas.Bool.Decides.{nat_tests, eqb_tells}
-use Rattle.std.proofs.lemmas.List.{append_assoc}
+use Rattle.std.proofs.lemmas.List.{get_or_append_left, append_assoc}
 use Rattle.std.proofs.lemmas.List.FromFn.{get_or-map-range_with_len, length-map-range_with_len}
+use Rattle.std.proofs.Math.Seq.{get_or-append_seam}
 use Rattle.pim_aig.specs.Literals.{complement, node, plain}
 use Rattle.pim_aig.specs.declared.literal.Lit.{Lit}
 use Rattle.pim_mig.specs.Graph.{IsApart, IsMig, MigView}
@@ -15,7 +16,7 @@ use Rattle.pim_mig.specs.Nodes.{made, same_operands, simplified}
 use Rattle.pim_mig.specs.declared.node.Maj.{Maj}
 use Rattle.pim_rewrite.specs.Passes.{after, moved_node, passed_from, plainly, stepped}
 use Rattle.pim_rewrite.proofs.Counting.{counted}
-use Rattle.pim_rewrite.proofs.Frame.{AtNode, begun_count, get_or_front, get_or_last, lit_front, lit_last, none, one_if, operand_needed, true_not_false}
+use Rattle.pim_rewrite.proofs.Frame.{AtNode, begun_count, none, one_if, operand_needed, true_not_false}
 use Rattle.pim_rewrite.proofs.Ranks.{AreRanked, counted_more, counted_rises, IsRanked, moved_ren, rank, rank_input, rank_node, ren, ren_apart, ren_node, same_ren}
 use Rattle.pim_rewrite.proofs.Values.{AreRest, at_rest, rest_all, rest_next}
 use Rattle.pim_rewrite.proofs.Views.{node_apart}
@@ -119,10 +120,10 @@ lits_push g k st l len c new i d h ranked = elim (eqb_tells i (length st.lits)) 
         | inl z ↦ absurd (omega arith)
         | inr z ↦ ap (is_needed g) (sym at) ∙ z
       ] in
-      ap (λ (j : ℕ). get_or (st.lits ++ l ∷ []) j d) e.1 ∙ lit_last st.lits l d ∙ new needed ∙ ap (λ (j : ℕ). plain (rank g j)) (sym at)
+      ap (λ (j : ℕ). get_or (st.lits ++ l ∷ []) j d) e.1 ∙ get_or-append_seam st.lits l [] d ∙ new needed ∙ ap (λ (j : ℕ). plain (rank g j)) (sym at)
   | inr o ↦
       let b : i < length st.lits = omega (arith, o.1, length-append st.lits (l ∷ [])) in
-      lit_front st.lits (l ∷ []) i d b ∙ c.lits_are i d b ranked
+      get_or_append_left st.lits (l ∷ []) d i b ∙ c.lits_are i d b ranked
 ]
 
 copied_new : (g : MigView) (k : ℕ) (m : Maj) (st : Making) (new : List Maj) (l : Lit) → IsMig g → AtNode g k m → length st.lits ≡ 1 + g.inputs + k → IsCopied g k st → IsNew g.inputs st.nodes (ren_node g m) new l → IsCopied g (k + 1) (record { nodes = new; lits = st.lits ++ l ∷ [] })
@@ -138,11 +139,11 @@ copied_new g k m st new l sound at len c is =
       nodes_are = λ j d h needed. ap (λ (xs : List Maj). get_or xs (counted p a j) d) is.grown ∙ elim (eqb_tells j k) [
         | inl e ↦
             ap (λ (q : ℕ). get_or (st.nodes ++ ren_node g m ∷ []) q d) (ap (counted p a) e.1 ∙ sym c.count)
-            ∙ get_or_last st.nodes (ren_node g m) d ∙ ap (ren_node g) (at.is ∙ ap (λ (q : ℕ). get_or g.nodes q none) (sym e.1))
+            ∙ get_or-append_seam st.nodes (ren_node g m) [] d ∙ ap (ren_node g) (at.is ∙ ap (λ (q : ℕ). get_or g.nodes q none) (sym e.1))
         | inr o ↦
             let before : j < k = omega (arith, o.1) in
             let rises = counted_rises p a j k before needed in
-            get_or_front st.nodes (ren_node g m ∷ []) (counted p a j) d (omega (arith, c.count)) ∙ c.nodes_are j d before needed
+            get_or_append_left st.nodes (ren_node g m ∷ []) d (counted p a j) (omega (arith, c.count)) ∙ c.nodes_are j d before needed
       ];
       count = omega (arith, c.count);
       onto = λ q h. elim (eqb_tells q (length st.nodes)) [

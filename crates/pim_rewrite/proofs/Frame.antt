@@ -1,15 +1,14 @@
 -- What each pass keeps: the nodes that are made stay, each old node gets a literal, and what needed nodes read is needed.
-use Rattle.std.proofs.Common.{◌≡◌, ◌⊎◌, ℕ, zero, suc, ◌+◌, ◌<◌, ◌≤◌, Bool, true, false, cond, eqb, ltb, List, [], ◌∷◌, ◌++◌, length, get_or, map, refl, sym, ◌∙◌, ap, subst, arith, inl, inr, length-append}
+use Rattle.std.proofs.Common.{◌≡◌, ◌⊎◌, ℕ, zero, suc, ◌+◌, ◌<◌, ◌≤◌, Bool, true, false, cond, eqb, ltb, List, [], ◌∷◌, ◌++◌, length, get_or, map, refl, sym, ◌∙◌, ap, arith, inl, inr, length-append}
 use Rattle.std.proofs.lemmas.Bool.Decides.{nat_tests, eqb_tells}
 use Rattle.std.proofs.lemmas.List.FromFn.{length-map-range_with_len}
+use Rattle.std.proofs.lemmas.List.{get_or_append_left}
 use Rattle.pim_aig.specs.Literals.{node, plain}
 use Rattle.pim_aig.specs.declared.literal.Lit.{Lit}
 use Rattle.pim_mig.specs.Graph.{IsMig, MigView}
-use Rattle.pim_mig.specs.Laws.{Answer, IsFront, NodeLaws}
-use Rattle.pim_mig.specs.Laws.Answer.{by_new, by_node, by_rule}
+use Rattle.pim_mig.specs.Laws.{IsFront}
 use Rattle.pim_mig.specs.Majs.{begun, Making}
 use Rattle.pim_mig.specs.Needs.{all_reads, is_needed, named, reads, reads_from, times}
-use Rattle.pim_mig.specs.Nodes.{made}
 use Rattle.pim_mig.specs.declared.node.Maj.{Maj}
 use Rattle.pim_rewrite.specs.Passes.{after, passed_from, Step, stepped}
 
@@ -46,25 +45,6 @@ front_both a b c f g = record {
   same = λ k d h. g.same k d (omega (arith, f.few)) ∙ f.same k d h;
 }
 
-pub get_or_front : (xs ys : List Maj) (k : ℕ) (d : Maj) → k < length xs → get_or (xs ++ ys) k d ≡ get_or xs k d
-get_or_front [] ys k d h = absurd (omega arith)
-get_or_front (x ∷ xs) ys zero d h = refl
-get_or_front (x ∷ xs) ys (suc k) d h = get_or_front xs ys k d (omega arith)
-
-pub get_or_last : (xs : List Maj) (x d : Maj) → get_or (xs ++ x ∷ []) (length xs) d ≡ x
-get_or_last [] x d = refl
-get_or_last (y ∷ ys) x d = get_or_last ys x d
-
-answer_front : (inputs : ℕ) (nodes : List Maj) (m : Maj) (new : List Maj) (l : Lit) → Answer inputs nodes m new l → IsFront nodes new
-answer_front inputs nodes m new l (by_rule f e) = subst (IsFront nodes) (sym e) (front_refl nodes)
-answer_front inputs nodes m new l (by_node f p h e s w) = subst (IsFront nodes) (sym e) (front_refl nodes)
-answer_front inputs nodes m new l (by_new f n e w) =
-    let whole : IsFront nodes (nodes ++ m ∷ []) = record { few = omega (arith, length-append nodes (m ∷ [])); same = λ k d h. get_or_front nodes (m ∷ []) k d h } in
-    subst (IsFront nodes) (sym e) whole
-
-pub made_front : (laws : NodeLaws) (inputs : ℕ) (nodes : List Maj) (m : Maj) → IsFront nodes (made inputs nodes m).nodes
-made_front laws inputs nodes m = answer_front inputs nodes m (made inputs nodes m).nodes (made inputs nodes m).lit (laws.answers inputs nodes m)
-
 -- a step after which all nodes are there still
 pub record Grows (step : Step) : Type 0 where
   pub front : (st : Making) (m : Maj) → IsFront st.nodes (step st m).nodes
@@ -93,22 +73,13 @@ lits_count step needed st n (m ∷ rest) =
 pub begun_count : (inputs : ℕ) → length (begun inputs).lits ≡ 1 + inputs
 begun_count inputs = length-map-range_with_len plain 0 (1 + inputs)
 
-pub lit_front : (xs ys : List Lit) (k : ℕ) (d : Lit) → k < length xs → get_or (xs ++ ys) k d ≡ get_or xs k d
-lit_front [] ys k d h = absurd (omega arith)
-lit_front (x ∷ xs) ys zero d h = refl
-lit_front (x ∷ xs) ys (suc k) d h = lit_front xs ys k d (omega arith)
-
-pub lit_last : (xs : List Lit) (x d : Lit) → get_or (xs ++ x ∷ []) (length xs) d ≡ x
-lit_last [] x d = refl
-lit_last (y ∷ ys) x d = lit_last ys x d
-
 -- the first literals stay
 pub lits_stay : (step : Step) (needed : ℕ → Bool) (st : Making) (n : ℕ) (rest : List Maj) (k : ℕ) (d : Lit) → k < length st.lits → get_or (passed_from step needed st n rest).lits k d ≡ get_or st.lits k d
 lits_stay step needed st n [] k d h = refl
 lits_stay step needed st n (m ∷ rest) k d h =
     let next = after step (needed n) st m in
     let l = (stepped (needed n) step st m).lit in
-    lits_stay step needed next (suc n) rest k d (omega (arith, length-append st.lits (l ∷ []))) ∙ lit_front st.lits (l ∷ []) k d h
+    lits_stay step needed next (suc n) rest k d (omega (arith, length-append st.lits (l ∷ []))) ∙ get_or_append_left st.lits (l ∷ []) d k h
 
 -- ---- reads
 -- the operands of each of these nodes, of which the first has number n, are of nodes before it

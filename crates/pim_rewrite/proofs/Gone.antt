@@ -16,7 +16,7 @@ use Rattle.pim_rewrite.specs.Passes.{after, moved_node, Step}
 use Rattle.pim_rewrite.specs.declared.cases.Case.{Case}
 use Rattle.pim_rewrite.proofs.Closing.{closed_front, Closes, IsClosed, IsCovered, IsLive, live_by, live_more, live_self, lives_from, made_closed, node_operand, operand_node, passed_live}
 use Rattle.pim_rewrite.proofs.Counting.{AreMarked, counted, counted_is, IsDistinct, without_all, without_list}
-use Rattle.pim_rewrite.proofs.Frame.{AreBefore, AtNode, before_rest, bool_cases, front_both, Grows, is_positive, made_front, mig_before, mig_reads, none, one_if, operand_needed, operand_times, ops, output_times, positive, reads_of, reads_part, times_append, true_not_false}
+use Rattle.pim_rewrite.proofs.Frame.{AreBefore, AtNode, before_rest, bool_cases, front_both, Grows, is_positive, mig_before, mig_reads, none, one_if, operand_needed, operand_times, ops, output_times, positive, reads_of, reads_part, times_append, true_not_false}
 use Rattle.pim_rewrite.proofs.NoMore.{moved_live, operands_live, three_live}
 use Rattle.pim_rewrite.proofs.Values.{AreRest, at_rest, rest_all, rest_next}
 use Rattle.pim_rewrite.proofs.Views.{at_single, both, either, IsCase, matches, node_apart, operand_before, pair_of, shares, Single, single, Taken, taken_apart, taken_operands, v_operand, View, view}
@@ -294,10 +294,10 @@ abbrev pub extra : MigView → Making → Maj → List ℕ
 extra g st m = extra_by (case_of g m) g.inputs st
 
 spread_front : (laws : NodeLaws) (inputs : ℕ) (o : Option Case) (st : Making) (m : Maj) → IsFront st.nodes (spread o inputs st m).nodes
-spread_front laws inputs None st m = made_front laws inputs st.nodes (moved_node st.lits m)
+spread_front laws inputs None st m = laws.fronts inputs st.nodes (moved_node st.lits m)
 spread_front laws inputs (Some c) st m =
     let d = made inputs st.nodes (inner st.lits c) in
-    front_both st.nodes d.nodes (made inputs d.nodes (outer st.lits c d.lit)).nodes (made_front laws inputs st.nodes (inner st.lits c)) (made_front laws inputs d.nodes (outer st.lits c d.lit))
+    front_both st.nodes d.nodes (made inputs d.nodes (outer st.lits c d.lit)).nodes (laws.fronts inputs st.nodes (inner st.lits c)) (laws.fronts inputs d.nodes (outer st.lits c d.lit))
 
 pub spread_grows : (laws : NodeLaws) (g : MigView) → Grows (spreads g)
 spread_grows laws g = record { front = λ st m. spread_front laws g.inputs (case_of g m) st m }
@@ -331,12 +331,12 @@ plain_live g k m lits live sound at len cov is =
     (stays g k m (node m.z) sound at (operand_times (node m.z) m (inr (inr refl))) (ap (times (node m.z)) p))
 
 added_by : (laws : NodeLaws) (g : MigView) (st : Making) (live : List ℕ) (k : ℕ) (m : Maj) (o : Option Case) → case_of g m ≡ o → IsMig g → AtNode g k m → length st.lits ≡ 1 + g.inputs + k → IsClosed g.inputs st.nodes live → IsCovered g (gone g) st.lits live → IsClosed g.inputs (spread o g.inputs st m).nodes (extra_by o g.inputs st ++ live)
-added_by laws g st live k m None is sound at len cl cov = closed_front g.inputs st.nodes (made g.inputs st.nodes (moved_node st.lits m)).nodes live cl (made_front laws g.inputs st.nodes (moved_node st.lits m))
+added_by laws g st live k m None is sound at len cl cov = closed_front g.inputs st.nodes (made g.inputs st.nodes (moved_node st.lits m)).nodes live cl (laws.fronts g.inputs st.nodes (moved_node st.lits m))
 added_by laws g st live k m (Some c) is sound at len cl cov =
     let d = made g.inputs st.nodes (inner st.lits c) in
     closed_front g.inputs d.nodes (made g.inputs d.nodes (outer st.lits c d.lit)).nodes (node d.lit ∷ live)
     (inner_closed laws g st live c (1 + g.inputs + k) len cl cov (kept_of g k m c sound at is (view g m)))
-    (made_front laws g.inputs d.nodes (outer st.lits c d.lit))
+    (laws.fronts g.inputs d.nodes (outer st.lits c d.lit))
 
 lived_by : (laws : NodeLaws) (g : MigView) (st : Making) (live : List ℕ) (k : ℕ) (m : Maj) (o : Option Case) → case_of g m ≡ o → IsMig g → AtNode g k m → length st.lits ≡ 1 + g.inputs + k → IsClosed g.inputs st.nodes live → IsCovered g (gone g) st.lits live → IsClosed g.inputs (spread o g.inputs st m).nodes (node (spread o g.inputs st m).lit ∷ extra_by o g.inputs st ++ live)
 lived_by laws g st live k m None is sound at len cl cov = made_closed laws g.inputs st.nodes (moved_node st.lits m) live cl (plain_live g k m st.lits live sound at len cov is)

@@ -12,14 +12,14 @@ use Rattle.pim_mig.specs.declared.node.Maj.{Maj}
 use Rattle.pim_rewrite.specs.Passes.{after, copy, flip, flipped, flipped_by, inversions, moved_node, opposite, plainly, Step}
 use Rattle.pim_rewrite.proofs.Closing.{Closes, IsClosed, IsCovered, IsLive, live_by, lives, lives_from, made_closed, node_complement, node_moved, node_operand, passed_live}
 use Rattle.pim_rewrite.proofs.Counting.{counted, counted_is}
-use Rattle.pim_rewrite.proofs.Frame.{AtNode, Grows, made_front, none, operand_needed, ops}
+use Rattle.pim_rewrite.proofs.Frame.{AtNode, Grows, none, operand_needed, ops}
 
 pub plain_grows : (laws : NodeLaws) (inputs : ℕ) → Grows (plainly inputs)
-plain_grows laws inputs = record { front = λ st m. made_front laws inputs st.nodes (moved_node st.lits m) }
+plain_grows laws inputs = record { front = λ st m. laws.fronts inputs st.nodes (moved_node st.lits m) }
 
 flip_front : (laws : NodeLaws) (inputs : ℕ) (nodes : List Maj) (m : Maj) (b : Bool) → IsFront nodes (flipped_by b inputs nodes m).nodes
-flip_front laws inputs nodes m true = made_front laws inputs nodes (opposite m)
-flip_front laws inputs nodes m false = made_front laws inputs nodes m
+flip_front laws inputs nodes m true = laws.fronts inputs nodes (opposite m)
+flip_front laws inputs nodes m false = laws.fronts inputs nodes m
 
 pub flip_grows : (laws : NodeLaws) (inputs : ℕ) → Grows (flipped inputs)
 flip_grows laws inputs = record { front = λ st m. flip_front laws inputs st.nodes (moved_node st.lits m) (ltb 1 (inversions (moved_node st.lits m))) }

@@ -12,7 +12,7 @@ use Rattle.pim_mig.specs.Values.{majority, mval}
 use Rattle.pim_mig.specs.declared.node.Maj.{Maj}
 use Rattle.pim_rewrite.specs.Cases.{inner, node_at, other, outer, spread}
 use Rattle.pim_rewrite.specs.declared.cases.Case.{Case}
-use Rattle.pim_rewrite.proofs.Frame.{AtNode, front_both, made_front}
+use Rattle.pim_rewrite.proofs.Frame.{AtNode, front_both}
 use Rattle.pim_rewrite.proofs.Gone.{IsKept, kept, spreads}
 use Rattle.pim_rewrite.proofs.Values.{AreTwo, AreValued, by_three, KeepsValues, moved_value, old_value, plain_values, value_in}
 use Rattle.pim_rewrite.proofs.Views.{at_single, IsCase, lit_is, Matches, matches, node_apart, shares, single, Single, Taken, taken_operands, View, view}
@@ -22,40 +22,13 @@ use Rattle.pim_rewrite.proofs.Views.View.{a_case, no_case}
 
 -- ---- laws of the majority
 turn_first : (a b c : Bool) → majority a b c ≡ majority b a c
-turn_first true true c = refl
-turn_first true false true = refl
-turn_first true false false = refl
-turn_first false true true = refl
-turn_first false true false = refl
-turn_first false false c = refl
+turn_first a b c = grind arith
 
 turn_last : (a b c : Bool) → majority a b c ≡ majority a c b
-turn_last a true true = refl
-turn_last true true false = refl
-turn_last false true false = refl
-turn_last true false true = refl
-turn_last false false true = refl
-turn_last a false false = refl
+turn_last a b c = grind arith
 
 distributes : (s t u v w : Bool) → majority (majority s t u) (majority s t v) w ≡ majority s t (majority u v w)
-distributes true true u v w = refl
-distributes false false u v w = refl
-distributes true false true true true = refl
-distributes true false true true false = refl
-distributes true false true false true = refl
-distributes true false true false false = refl
-distributes true false false true true = refl
-distributes true false false true false = refl
-distributes true false false false true = refl
-distributes true false false false false = refl
-distributes false true true true true = refl
-distributes false true true true false = refl
-distributes false true true false true = refl
-distributes false true true false false = refl
-distributes false true false true true = refl
-distributes false true false true false = refl
-distributes false true false false true = refl
-distributes false true false false false = refl
+distributes s t u v w = grind arith
 
 -- ---- the value of the node whose operands are shared, and of the other one
 match_value : (f : Lit → Bool) (a b : Maj) (w : Lit) (c : Case) → Matches a b w c → majority (f a.x) (f a.y) (f a.z) ≡ majority (f c.s) (f c.t) (f c.u)
@@ -182,7 +155,7 @@ spread_value g t bits st k m e f w c two at len v is front =
     let keep = kept g k m e f w c two.sound at is in
     let d = made g.inputs st.nodes (inner st.lits c) in
     let out = made g.inputs d.nodes (outer st.lits c d.lit) in
-    let front_d = front_both d.nodes out.nodes t.nodes (made_front two.laws g.inputs d.nodes (outer st.lits c d.lit)) front in
+    let front_d = front_both d.nodes out.nodes t.nodes (two.laws.fronts g.inputs d.nodes (outer st.lits c d.lit)) front in
     let val_d : mval t bits d.lit ≡ majority (mval g bits c.u) (mval g bits c.v) (mval g bits c.w) =
     value_in g t bits st.nodes (inner st.lits c) two front_d
     ∙ by_three (mval t bits (moved st.lits c.u)) (mval t bits (moved st.lits c.v)) (mval t bits (moved st.lits c.w)) (mval g bits c.u) (mval g bits c.v) (mval g bits c.w)

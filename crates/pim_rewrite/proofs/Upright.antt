@@ -1,6 +1,8 @@
 -- The flip pass leaves at most one complemented operand that is no constant.
 use Rattle.std.proofs.Common.{◌≡◌, ℕ, suc, ◌+◌, ◌-◌, ◌%◌, ◌<◌, ◌≤◌, Bool, true, false, cond, eqb, ltb, ◌&&◌, List, [], ◌∷◌, ◌++◌, length, get_or, refl, sym, ◌∙◌, ap, subst, arith, inl, inr, length-append}
 use Rattle.std.proofs.lemmas.Bool.Decides.{nat_tests, eqb_tells}
+use Rattle.std.proofs.lemmas.List.{get_or_append_left}
+use Rattle.std.proofs.Math.Seq.{get_or-append_seam}
 use Rattle.pim_aig.specs.Literals.{complement}
 use Rattle.pim_aig.specs.declared.literal.Lit.{Lit}
 use Rattle.pim_mig.specs.Laws.{Answer, NodeLaws}
@@ -10,7 +12,7 @@ use Rattle.pim_mig.specs.Nodes.{made}
 use Rattle.pim_mig.specs.declared.node.Maj.{Maj}
 use Rattle.pim_rewrite.specs.Normal.{AreUpright}
 use Rattle.pim_rewrite.specs.Passes.{after, flipped, flipped_by, inversions, inverted, moved_node, opposite, passed_from, stepped}
-use Rattle.pim_rewrite.proofs.Frame.{get_or_front, get_or_last, one_if}
+use Rattle.pim_rewrite.proofs.Frame.{one_if}
 
 one_at_most : (b : Bool) → one_if b ≤ 1
 one_at_most true = omega arith
@@ -39,11 +41,11 @@ opposite_few m = omega (arith, one_inverted m.x, one_inverted m.y, one_inverted 
 pub upright_push : (nodes : List Maj) (m : Maj) → AreUpright nodes → inversions m ≤ 1 → AreUpright (nodes ++ m ∷ [])
 upright_push nodes m u h = λ k d there. elim (eqb_tells k (length nodes)) [
   | inl e ↦
-      let is = ap inversions (ap (λ (i : ℕ). get_or (nodes ++ m ∷ []) i d) e.1 ∙ get_or_last nodes m d) in
+      let is = ap inversions (ap (λ (i : ℕ). get_or (nodes ++ m ∷ []) i d) e.1 ∙ get_or-append_seam nodes m [] d) in
       omega arith
   | inr o ↦
       let l : k < length nodes = omega (arith, o.1, length-append nodes (m ∷ [])) in
-      let is = ap inversions (get_or_front nodes (m ∷ []) k d l) in
+      let is = ap inversions (get_or_append_left nodes (m ∷ []) d k l) in
       omega (arith, u k d l)
 ]
 

@@ -2,6 +2,8 @@
 use Rattle.std.proofs.Common.{◌≡◌, ℕ, zero, suc, ◌+◌, ◌/◌, ◌%◌, ◌<◌, ◌≤◌, Bool, true, false, cond, ltb, not, List, [], ◌∷◌, ◌++◌, length, get_or, map, refl, sym, ◌∙◌, ap, subst, arith, inl, inr, length-append}
 use Rattle.std.proofs.lemmas.Bool.Decides.{eqb_tells}
 use Rattle.std.proofs.lemmas.List.FromFn.{get_or-map-range_with_len, length-map-range_with_len}
+use Rattle.std.proofs.lemmas.List.{get_or_append_left}
+use Rattle.std.proofs.Math.Seq.{get_or-append_seam}
 use Rattle.pim_aig.specs.Literals.{complement, node, plain}
 use Rattle.pim_aig.specs.declared.literal.Lit.{Lit}
 use Rattle.pim_mig.specs.Graph.{IsMig, MigView}
@@ -13,7 +15,7 @@ use Rattle.pim_mig.specs.Nodes.{made}
 use Rattle.pim_mig.specs.Values.{majority, mval, node_values}
 use Rattle.pim_mig.specs.declared.node.Maj.{Maj}
 use Rattle.pim_rewrite.specs.Passes.{after, flipped, flipped_by, inversions, moved_node, opposite, passed_from, plainly, Step, stepped}
-use Rattle.pim_rewrite.proofs.Frame.{AtNode, begun_count, front_both, front_refl, Grows, lit_front, lit_last, lits_count, none, operand_needed, output_needed, rest_front}
+use Rattle.pim_rewrite.proofs.Frame.{AtNode, begun_count, front_both, front_refl, Grows, lits_count, none, operand_needed, output_needed, rest_front}
 
 -- an old graph and a new one of as many inputs, by whose laws values are told
 pub record AreTwo (g t : MigView) (bits : List Bool) : Type 0 where
@@ -122,11 +124,11 @@ valued_push : (g t : MigView) (bits : List Bool) (lits : List Lit) (l : Lit) →
 valued_push g t bits lits l v h = record {
   each = λ i d there needed. elim (eqb_tells i (length lits)) [
     | inl e ↦
-        ap (λ (j : ℕ). mval t bits (get_or (lits ++ l ∷ []) j d)) e.1 ∙ ap (mval t bits) (lit_last lits l d) ∙ h (ap (is_needed g) (sym e.1) ∙ needed)
+        ap (λ (j : ℕ). mval t bits (get_or (lits ++ l ∷ []) j d)) e.1 ∙ ap (mval t bits) (get_or-append_seam lits l [] d) ∙ h (ap (is_needed g) (sym e.1) ∙ needed)
         ∙ ap (λ (j : ℕ). mval g bits (plain j)) (sym e.1)
     | inr o ↦
         let b : i < length lits = omega (arith, o.1, length-append lits (l ∷ [])) in
-        ap (mval t bits) (lit_front lits (l ∷ []) i d b) ∙ v.each i d b needed
+        ap (mval t bits) (get_or_append_left lits (l ∷ []) d i b) ∙ v.each i d b needed
   ];
 }
 

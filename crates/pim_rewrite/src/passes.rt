@@ -1,4 +1,4 @@
-ghost use Rattle.std.specs.Prelude.{◌≡◌, ◌+◌, ◌*◌, ◌<◌, ◌≤◌, [], All, true, List, length, map, IfOk, OnOk};
+ghost use Rattle.std.specs.Prelude.{◌≡◌, ◌+◌, ◌*◌, ◌<◌, ◌≤◌, [], All, true, length, map, IfOk, OnOk};
 ghost use Rattle.pim_aig.specs.Graph.{IsOfFirst};
 ghost use Rattle.pim_aig.specs.declared.graph.TheConstants.{MAX_OUTPUTS};
 ghost use Rattle.pim_mig.specs.Graph.{size};
@@ -96,40 +96,9 @@ fn step_if_needed(
     if !reading.is_needed(lits.len() as u32) {
         return Ok(Lit::FALSE);
     }
-    let literal = step(reading, pass, made, lits, node)?;
-    Ok(literal)
-}
-
-/// Makes what a pass makes of one needed node.
-fn step(
-    reading: &Reading,
-    pass: Pass,
-    made: &mut Mig,
-    lits: &[Lit],
-    node: Maj,
-) -> Result<Lit, NoMemory>
-    requires same { made.old.inputs ≡ reading.now.inputs }
-    requires count { length lits.now ≤ size reading.now }
-    requires lits_there { All (IsOfFirst (size made.old)) lits.now }
-    requires node_there { IsBefore (length lits.now) node }
-    requires room { length made.old.nodes + 1 < MAX_NODES }
-    ensures literal { IfOk result (λ l. l ≡ (step_of pass reading.now (record { nodes = made.old.nodes; lits = lits.now }) node).lit) }
-    ensures nodes { OnOk result (made.new ≡ record made.old {
-      nodes = (step_of pass reading.now (record { nodes = made.old.nodes; lits = lits.now }) node).nodes;
-    }) }
-    ensures there { IfOk result (IsOfFirst (size made.new)) }
-    ensures no_fewer { OnOk result (length made.old.nodes ≤ length made.new.nodes) }
-    ensures few { OnOk result (length made.new.nodes ≤ length made.old.nodes + most_made true (case_of reading.now node)) }
-{
     match pass {
-        Pass::Copy => {
-            let copied = copy_node(made, lits, node)?;
-            Ok(copied)
-        }
-        Pass::Flip => {
-            let flipped = flip_node(made, lits, node)?;
-            Ok(flipped)
-        }
+        Pass::Copy => copy_node(made, lits, node),
+        Pass::Flip => flip_node(made, lits, node),
         Pass::Distribute => match case_of(reading, node) {
             None => copy_node(made, lits, node),
             Some(case) => spread_node(made, lits, case),

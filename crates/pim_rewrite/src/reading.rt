@@ -1,4 +1,4 @@
-ghost use Rattle.std.specs.Prelude.{◌≡◌, ◌+◌, ◌^◌, ◌<◌, ◌≤◌, ◌∷◌, [], if◌then◌else◌, ℕ, length, map, nat_lt, slice_index_or, IfOk};
+ghost use Rattle.std.specs.Prelude.{◌≡◌, ◌+◌, ◌^◌, ◌<◌, ◌∷◌, [], if◌then◌else◌, ℕ, length, nat_lt, slice_index_or, IfOk};
 ghost use Rattle.pim_aig.specs.Graph.{IsOfFirst};
 ghost use Rattle.pim_aig.specs.Literals.{node};
 ghost use Rattle.pim_mig.specs.Graph.{IsMig, size};

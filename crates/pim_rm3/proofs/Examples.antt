@@ -13,7 +13,6 @@ use Rattle.pim_isa.specs.declared.instr.Instr.TheVariants.{Rm3}
 use Rattle.pim_rm3.specs.Costs.{coarse_of, made_outputs, needed_of, rm3_cost}
 use Rattle.pim_rm3.specs.Gates.{gates, taken}
 use Rattle.pim_rm3.specs.Schedules.{program_of, schedule}
-use Rattle.pim_rm3.specs.declared.gate.Gate.TheVariants as gate
 
 abbrev lit : ℕ → Lit
 lit l = record { 0 = l }

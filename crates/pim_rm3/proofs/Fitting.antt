@@ -21,7 +21,7 @@ use Rattle.pim_rm3.specs.Schedules.{cell_of, gate_instrs, instrs_at, is_inverted
 use Rattle.pim_rm3.specs.declared.gate.Gate.{Gate}
 use Rattle.pim_rm3.specs.declared.gate.Gate.TheVariants as gate
 use Rattle.pim_rm3.proofs.Lists.{all_has, has_whole, has_of_take}
-use Rattle.pim_rm3.proofs.GateKinds.{Kind, kind_of, kids_at, and_of, first_read, second_read, inverse_read}
+use Rattle.pim_rm3.proofs.GateKinds.{Kind, kind_of, kids_at, and_of, first_read, second_read, inverse_child}
 use Rattle.pim_rm3.proofs.GateKinds.Kind.{constant, inverse, input, meet}
 use Rattle.pim_rm3.proofs.GateOrders.{taken_map}
 use Rattle.pim_rm3.proofs.Stepping.{read_needed}
@@ -154,14 +154,7 @@ gate_fits g a p s h (inverse some odd is) =
     let l = get_or (gates g) p 0 in
     let z = get_or a.cells l 0 in
     let e : Lit = record { 0 = l } in
-    let below = s.there p 0 h in
-    let child = λ (above : g.inputs < l / 2).
-    let half : 2 * ((l - 1) / 2) ≡ 2 * (l / 2) = omega arith in
-    let over : g.inputs < (l - 1) / 2 = omega arith in
-    ap (λ (xs : List ℕ). has xs (2 * (l / 2))) (kids_at g l below ∙ ap (ands_read g) is)
-    ∙ ap (has (ands_read g (gate.Not (record { 0 = l - 1 })))) (sym half)
-    ∙ inverse_read g (record { 0 = l - 1 }) over in
-    let fit = operand_fits g a p e s h child in
+    let fit = operand_fits g a p e s h (inverse_child g l (s.there p 0 h) odd is) in
     let P : Gate → Type 0 = λ t. All (Fits g.inputs a.width) (gate_instrs g a.cells z (taken g l) l t) in
     subst P (sym is) (fits_load g.inputs a.cells g.inputs a.width z e (s.allotted.from l (has_whole (gates g) p h)) (s.allotted.within l (has_whole (gates g) p h)) (λ q. (fit.within q, fit.apart (ap (taken_of g) is) q)))
 gate_fits g a p s h (input some even few is) =

@@ -19,17 +19,19 @@ use Rattle.pim_mig.specs.declared.node.Maj.{Maj}
 use Rattle.pim_rm3.specs.Roles.{is_plain, temporary}
 use Rattle.pim_rm3.specs.Schedules.{cell_of, is_inverted, load, operand_of, set_to}
 use Rattle.pim_rm3.specs.SmartSchedules.{first_operand, inverse, second_operand, step_instrs, third_instrs}
-use Rattle.pim_rm3.specs.Steps.{can_be_taken, maj_at, mig_gates, mig_graph, step_of}
+use Rattle.pim_rm3.specs.Steps.{maj_at, mig_gates, mig_graph, step_of}
+use Rattle.pim_rm3.specs.Taking.{can_be_taken}
 use Rattle.pim_rm3.specs.Temporaries.{full_graph, full_order, full_over, gate_number, step_takes, temporary_of}
 use Rattle.pim_rm3.specs.declared.step.Step.TheVariants as step
 use Rattle.pim_rm3.proofs.Lists.{has_whole, has_of_take}
 use Rattle.pim_rm3.proofs.FullKids.{ReadsNode, node_vote, odd_or_even, reads_gate, reads_own, vote_node, few_none, odd_is}
-use Rattle.pim_rm3.proofs.FullSound.{IsOrdered, over_is, takeable}
+use Rattle.pim_rm3.proofs.FullSound.{IsOrdered, over_is}
 use Rattle.pim_rm3.proofs.FullValues.{IsRead, third_off, cells, constant_value, instrs_gate, instrs_of, operand_apart, operand_held, placing, plain_value, temporary_value, value_gate, value_of, value_temporary, vote_value}
 use Rattle.pim_rm3.proofs.RoleLaws.{least_in, one_temporary}
 use Rattle.pim_rm3.proofs.Rows.{at_target, bool_cases, lit_bit, lit_inverted, lit_same, load_gives, operand_value, set_gives}
 use Rattle.pim_rm3.proofs.StepLaws.{IsOf, ReadsOne, role_at}
 use Rattle.pim_rm3.proofs.StepLaws.ReadsOne.{by_first, by_second, by_third}
+use Rattle.pim_rm3.proofs.TakenCells.{takeable}
 use Rattle.pim_rm3.proofs.Stepping.{IsSound, Reads, read_before, read_needed}
 use Rattle.pim_rm3.proofs.Walks.{input_is, root_gate}
 
@@ -65,34 +67,13 @@ not_input g l there (as_child {reader = r} before h) some even few = no_kid g r 
 
 -- ---- majorities
 maj_turn : (a b c : Bool) → mig_majority b a c ≡ mig_majority a b c
-maj_turn true true true = refl
-maj_turn true true false = refl
-maj_turn true false true = refl
-maj_turn true false false = refl
-maj_turn false true true = refl
-maj_turn false true false = refl
-maj_turn false false true = refl
-maj_turn false false false = refl
+maj_turn a b c = grind arith
 
 maj_shift : (a b c : Bool) → mig_majority a c b ≡ mig_majority a b c
-maj_shift true true true = refl
-maj_shift true true false = refl
-maj_shift true false true = refl
-maj_shift true false false = refl
-maj_shift false true true = refl
-maj_shift false true false = refl
-maj_shift false false true = refl
-maj_shift false false false = refl
+maj_shift a b c = grind arith
 
 same_majority : (a b c : Bool) → majority a b c ≡ mig_majority a b c
-same_majority true true true = refl
-same_majority true true false = refl
-same_majority true false true = refl
-same_majority true false false = refl
-same_majority false true true = refl
-same_majority false true false = refl
-same_majority false false true = refl
-same_majority false false false = refl
+same_majority a b c = grind arith
 
 -- in other roles the majority is the same
 role_value : (g : MigView) (bits : List Bool) (l : ℕ) → mig_majority (mval g bits (role_at g l).p) (mval g bits (role_at g l).q) (mval g bits (role_at g l).z) ≡ mig_majority (mval g bits (maj_at g l).x) (mval g bits (maj_at g l).y) (mval g bits (maj_at g l).z)
@@ -102,7 +83,7 @@ role_value g bits l =
     let x = v m.x in
     let y = v m.y in
     let z = v m.z in
-    least_in (λ r. mig_majority (v r.p) (v r.q) (v r.z) ≡ mig_majority x y z) m (can_be_taken g m.x) (can_be_taken g m.y) (can_be_taken g m.z)
+    least_in (λ r. mig_majority (v r.p) (v r.q) (v r.z) ≡ mig_majority x y z) m (can_be_taken g.inputs (mig_graph g) m.x.0) (can_be_taken g.inputs (mig_graph g) m.y.0) (can_be_taken g.inputs (mig_graph g) m.z.0)
     refl
     (maj_shift x y z)
     (maj_turn x y z)
@@ -149,7 +130,7 @@ role_operands g l small h even above =
     let r4 = operands_shift l m.y m.x m.z r3 in
     let r5 = operands_turn l m.x m.z m.y r2 in
     let r6 = operands_turn l m.y m.z m.x r4 in
-    least_in (λ r. IsOperands l r.p r.q r.z) m (can_be_taken g m.x) (can_be_taken g m.y) (can_be_taken g m.z) o r2 r3 r4 r5 r6
+    least_in (λ r. IsOperands l r.p r.q r.z) m (can_be_taken g.inputs (mig_graph g) m.x.0) (can_be_taken g.inputs (mig_graph g) m.y.0) (can_be_taken g.inputs (mig_graph g) m.z.0) o r2 r3 r4 r5 r6
 
 -- what an operand of the gate at a place gives
 record OperandIs (g : MigView) (a : AllotmentView) (bits m : List Bool) (p : ℕ) (z : ℕ) (e : Lit) : Type 0 where
@@ -274,7 +255,7 @@ third_is g a bits m p l t =
           ap (λ (b : Bool). bit (exec (cond b (set_to (eqb r.z.0 1) z ∷ []) (cond r.over [] (load g.inputs cs z r.z))) m) z) some.0
           ∙ elim (bool_cases r.over) [
             | inl over ↦
-                let c = takeable g r.z (sym (over_is g l) ∙ over) in
+                let c = takeable g.inputs (mig_graph g) r.z.0 (sym (over_is g l) ∙ over) in
                 let same : 2 * (r.z.0 / 2) ≡ r.z.0 = omega (arith, c.even) in
                 let taken : taken_at (full_over g) p ≡ Some (gate_number r.z.0) = t.at.takes ∙ (ap step_takes t.at.is ∙ ap (λ (b : Bool). cond b (Some (gate_number r.z.0)) None) over) in
                 let node : ReadsNode g l r.z.0 = vote_node g l r.z.0 t.at.there t.at.even t.at.above (by_third (record { above = c.above; same = same })) in
@@ -360,7 +341,7 @@ not_plain_inverted e h some =
 
 pub not_both : (g : MigView) (l : ℕ) → is_plain (role_at g l).q ≡ true → is_inverted (role_at g l).p ≡ false
 not_both g l plain = elim (bool_cases (is_inverted (role_at g l).p)) [
-  | inl t ↦ absurd (one_temporary (maj_at g l) (can_be_taken g (maj_at g l).x) (can_be_taken g (maj_at g l).y) (can_be_taken g (maj_at g l).z) t plain)
+  | inl t ↦ absurd (one_temporary (maj_at g l) (can_be_taken g.inputs (mig_graph g) (maj_at g l).x.0) (can_be_taken g.inputs (mig_graph g) (maj_at g l).y.0) (can_be_taken g.inputs (mig_graph g) (maj_at g l).z.0) t plain)
   | inr f ↦ f
 ]
 

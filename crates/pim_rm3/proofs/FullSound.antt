@@ -1,28 +1,27 @@
 -- The order with temporaries is sound: each gate once and after what it reads, needed after its place; what is taken over is needed no
 -- longer; and it holds one value more at once, at most, than the order without.
-use Rattle.std.proofs.Common.{◌≡◌, ◌≢◌, ℕ, ◌+◌, ◌-◌, ◌*◌, ◌/◌, ◌%◌, ◌<◌, ◌≤◌, Bool, true, false, cond, eqb, nat_lt, ◌&&◌, ◌||◌, not, List, [], ◌∷◌, ◌++◌, length, get_or, take, drop, All, Option, Some, None, refl, sym, ◌∙◌, ap, subst, arith, inl, inr, length-append}
+use Rattle.std.proofs.Common.{◌≡◌, ℕ, ◌+◌, ◌*◌, ◌/◌, ◌%◌, ◌<◌, ◌≤◌, Bool, true, false, cond, eqb, ◌||◌, List, [], ◌∷◌, ◌++◌, length, get_or, take, drop, All, Option, Some, None, refl, sym, ◌∙◌, ap, subst, arith, inl, inr, length-append}
 use Rattle.std.proofs.lemmas.Bool.{false≢true}
-use Rattle.std.proofs.lemmas.List.{drop_more}
 use Rattle.pim_aig.specs.declared.literal.Lit.{Lit}
 use Rattle.pim_graph.specs.Allotments.{IsOver, taken_at}
-use Rattle.pim_graph.specs.Graphs.{GraphView, has, kids_of}
+use Rattle.pim_graph.specs.Graphs.{has, kids_of}
 use Rattle.pim_graph.specs.Peaks.{IsPlaced, needed, read_by}
-use Rattle.pim_graph.specs.Readers.{occurrences, reads}
 use Rattle.pim_mig.specs.Graph.{MigView, size}
-use Rattle.pim_rm3.specs.Steps.{can_be_taken, maj_at, mig_gates, mig_graph, step_of}
+use Rattle.pim_rm3.specs.Steps.{maj_at, mig_gates, mig_graph, step_of}
+use Rattle.pim_rm3.specs.Taking.{can_be_taken}
 use Rattle.pim_rm3.specs.Temporaries.{full_graph, full_order, full_over, gate_number, own_temporary, step_takes, temporary_of, with_temporary}
 use Rattle.pim_rm3.specs.declared.step.Step.TheVariants as step
-use Rattle.pim_rm3.proofs.Lists.{all_has, or_true, split, last, has_whole, has_here, one_has, has_front, has_back, has_either, in_drop}
+use Rattle.pim_rm3.proofs.Lists.{all_has, or_true, split, has_whole, has_here, one_has, has_front, has_back, has_either, in_drop}
 use Rattle.pim_rm3.proofs.Bounds.{get_or_same}
 use Rattle.pim_rm3.proofs.FullKids.{FullKid, full_kid, temporary_kid, ReadsNode, reads_gate, reads_own, vote_third}
 use Rattle.pim_rm3.proofs.FullKids.FullKid.{node_kid, own_kid}
 use Rattle.pim_rm3.proofs.FullOrders.{flat, AtGate, AtTemporary, place, here_is, after_is, own_only, has_flat, flat_has, needed_alone, needed_with}
-use Rattle.pim_rm3.proofs.GateOrders.{and_both, has-occurrences, is_eq, is_lt, lt_none, lt_some, not_true, or_lt, reads_drop}
 use Rattle.pim_rm3.proofs.RoleLaws.{least_in}
 use Rattle.pim_rm3.proofs.Rows.{bool_cases}
 use Rattle.pim_rm3.proofs.StepLaws.{StepKind, step_kind, role_at, full_count, order_there}
 use Rattle.pim_rm3.proofs.StepLaws.StepKind.{constant, inverse, input, vote}
 use Rattle.pim_rm3.proofs.Stepping.{read_before}
+use Rattle.pim_rm3.proofs.TakenCells.{IsTakeable, spent, takeable}
 
 -- what is known of the order without temporaries
 pub record IsOrdered (g : MigView) : Type 0 where
@@ -143,26 +142,10 @@ full_needed g s p h =
     ]
 
 -- ---- what is taken over
--- a literal whose cell is taken over
-pub record IsTakeable (g : MigView) (e : Lit) : Type 0 where
-  pub even : e.0 % 2 ≡ 0
-  pub above : g.inputs < e.0 / 2
-  pub no_root : has (mig_graph g).roots e.0 ≡ false
-  pub once : reads (mig_graph g) (mig_gates g) e.0 ≡ 1
-
-pub takeable : (g : MigView) (e : Lit) → can_be_taken g e ≡ true → IsTakeable g e
-takeable g e h =
-    let R = has (mig_graph g).roots e.0 in
-    let E = eqb (reads (mig_graph g) (mig_gates g) e.0) 1 in
-    let a = and_both ((eqb (e.0 % 2) 0 && nat_lt g.inputs (e.0 / 2)) && not R) E h in
-    let b = and_both (eqb (e.0 % 2) 0 && nat_lt g.inputs (e.0 / 2)) (not R) a.0 in
-    let d = and_both (eqb (e.0 % 2) 0) (nat_lt g.inputs (e.0 / 2)) b.0 in
-    record { even = is_eq (e.0 % 2) 0 d.0; above = is_lt g.inputs (e.0 / 2) d.1; no_root = not_true R b.1; once = is_eq (reads (mig_graph g) (mig_gates g) e.0) 1 a.1 }
-
-pub over_is : (g : MigView) (l : ℕ) → (role_at g l).over ≡ can_be_taken g (role_at g l).z
+pub over_is : (g : MigView) (l : ℕ) → (role_at g l).over ≡ can_be_taken g.inputs (mig_graph g) (role_at g l).z.0
 over_is g l =
     let m = maj_at g l in
-    least_in (λ r. r.over ≡ can_be_taken g r.z) m (can_be_taken g m.x) (can_be_taken g m.y) (can_be_taken g m.z) refl refl refl refl refl refl
+    least_in (λ r. r.over ≡ can_be_taken g.inputs (mig_graph g) r.z.0) m (can_be_taken g.inputs (mig_graph g) m.x.0) (can_be_taken g.inputs (mig_graph g) m.y.0) (can_be_taken g.inputs (mig_graph g) m.z.0) refl refl refl refl refl refl
 
 -- a gate that takes a cell over is a majority node, and takes that of its third operand
 pub record IsTaker (g : MigView) (l c : ℕ) : Type 0 where
@@ -171,7 +154,7 @@ pub record IsTaker (g : MigView) (l c : ℕ) : Type 0 where
   pub is : step_of g l ≡ step.Vote (role_at g l)
   pub over : (role_at g l).over ≡ true
   pub same : c ≡ gate_number (role_at g l).z.0
-  pub third : IsTakeable g (role_at g l).z
+  pub third : IsTakeable g.inputs (mig_graph g) (role_at g l).z.0
 
 some_is : (a c : ℕ) → Some a ≡ Some c → c ≡ a
 some_is a c e = cc
@@ -193,7 +176,7 @@ taker_by g l c (vote even above is) e =
         is = is;
         over = t;
         same = some_is (gate_number r.z.0) c (sym (open_step ∙ ap (λ (b : Bool). cond b (Some (gate_number r.z.0)) None) t) ∙ e);
-        third = takeable g r.z (sym (over_is g l) ∙ t);
+        third = takeable g.inputs (mig_graph g) r.z.0 (sym (over_is g l) ∙ t);
       }
       | inr f ↦ absurd (none_takes c (sym (open_step ∙ ap (λ (b : Bool). cond b (Some (gate_number r.z.0)) None) f) ∙ e))
     ]
@@ -208,25 +191,10 @@ third_read g l c b t =
     let same : 2 * (r.z.0 / 2) ≡ r.z.0 = omega (arith, t.third.even) in
     vote_third g l r.z.0 b t.even t.above (record { above = t.third.above; same = same })
 
--- a gate is read exactly where it has reads
-read_law : (v : GraphView) (readers : List ℕ) (x : ℕ) → read_by v readers x ≡ nat_lt 0 (reads v readers x)
-read_law v [] x = refl
-read_law v (y ∷ ys) x = or_lt (occurrences (kids_of v y) x) (reads v ys x) (has (kids_of v y) x) (read_by v ys x) (has-occurrences (kids_of v y) x) (read_law v ys x)
-
-spent : (g : MigView) (i c : ℕ) → IsOrdered g → i < length (mig_gates g) → IsTaker g (get_or (mig_gates g) i 0) c → needed (mig_graph g) (drop (i + 1) (mig_gates g)) (role_at g (get_or (mig_gates g) i 0)).z.0 ≡ false
-spent g i c s h t =
-    let v = mig_graph g in
-    let xs = mig_gates g in
-    let l = get_or xs i 0 in
-    let z = (role_at g l).z.0 in
-    let kid = third_read g l c (below g l s (has_whole xs i h)) t in
-    let some = lt_some (occurrences (kids_of v l) z) (sym (has-occurrences (kids_of v l) z) ∙ kid) in
-    let cut : reads v (drop i xs) z ≡ occurrences (kids_of v l) z + reads v (drop (i + 1) xs) z = ap (λ (ys : List ℕ). reads v ys z) (drop_more xs i 0 h) in
-    let less = reads_drop v xs i z in
-    let once = t.third.once in
-    let none : reads v (drop (i + 1) xs) z ≡ 0 = omega arith in
-    let unread : read_by v (drop (i + 1) xs) z ≡ false = read_law v (drop (i + 1) xs) z ∙ lt_none (reads v (drop (i + 1) xs) z) none in
-    ap (λ (b : Bool). b || has v.roots z) unread ∙ t.third.no_root
+taker_spent : (g : MigView) (i c : ℕ) → IsOrdered g → i < length (mig_gates g) → IsTaker g (get_or (mig_gates g) i 0) c → needed (mig_graph g) (drop (i + 1) (mig_gates g)) (role_at g (get_or (mig_gates g) i 0)).z.0 ≡ false
+taker_spent g i c s h t =
+    let l = get_or (mig_gates g) i 0 in
+    spent g.inputs (mig_graph g) i (role_at g l).z.0 t.third h (third_read g l c (below g l s (has_whole (mig_gates g) i h)) t)
 
 none_some : (o : Option ℕ) (c : ℕ) → o ≡ None → o ≡ Some c → ⊥
 none_some o c n e = cc
@@ -255,7 +223,7 @@ full_sound g s =
             let z = (role_at g x).z.0 in
             no_true (needed v (drop (p + 1) fl) c) (λ n.
             let again : needed v rest (gate_number z) ≡ true = sym (ap (λ (ys : List ℕ). needed v ys c) after ∙ ap (needed v rest) t.same) ∙ n in
-            false≢true (sym (spent g a.i c s a.within t) ∙ needed_alone g (drop (a.i + 1) xs) z (λ l q. below g l s (in_drop xs (a.i + 1) l q)) again))
+            false≢true (sym (taker_spent g a.i c s a.within t) ∙ needed_alone g (drop (a.i + 1) xs) z (λ l q. below g l s (in_drop xs (a.i + 1) l q)) again))
         | inr t ↦ absurd (none_some (taken_at (full_over g) p) c t.takes e)
       ];
     }

@@ -73,6 +73,15 @@ second_read g x y h = with_and_has g (with_and g [] x) y h
 pub inverse_read : (g : AigView) (m : Lit) → g.inputs < m.0 / 2 → has (ands_read g (gate.Not m)) (2 * (m.0 / 2)) ≡ true
 inverse_read g m h = with_and_has g [] m h
 
+-- a complement above the inputs reads its node
+pub inverse_child : (g : AigView) (l : ℕ) → l < 2 * nodes g → l % 2 ≡ 1 → gate_of g l ≡ gate.Not (record { 0 = l - 1 }) → g.inputs < l / 2 → has (kids_of (gate_graph g) l) (2 * (l / 2)) ≡ true
+inverse_child g l below odd is above =
+    let half : 2 * ((l - 1) / 2) ≡ 2 * (l / 2) = omega arith in
+    let over : g.inputs < (l - 1) / 2 = omega arith in
+    ap (λ (xs : List ℕ). has xs (2 * (l / 2))) (kids_at g l below ∙ ap (ands_read g) is)
+    ∙ ap (has (ands_read g (gate.Not (record { 0 = l - 1 })))) (sym half)
+    ∙ inverse_read g (record { 0 = l - 1 }) over
+
 -- the value of a node
 abbrev pub node_value : AigView → List Bool → ℕ → Bool
 node_value g bits n = get_or (node_values g bits) n false

@@ -1,20 +1,19 @@
 -- The order of the gates, and the cells that gates take over.
-use Rattle.std.proofs.Common.{◌≡◌, ℕ, zero, suc, ◌+◌, ◌-◌, ◌*◌, ◌/◌, ◌%◌, ◌<◌, ◌≤◌, Bool, true, false, cond, eqb, nat_lt, ◌&&◌, ◌||◌, not, List, [], ◌∷◌, length, get_or, drop, map, All, Option, Some, None, refl, sym, ◌∙◌, ap, subst, arith, inl, inr}
-use Rattle.std.proofs.lemmas.Bool.{false≢true}
-use Rattle.std.proofs.lemmas.Bool.Decides.{nat_tests}
-use Rattle.std.proofs.lemmas.List.{drop_more, get_or-map}
+use Rattle.std.proofs.Common.{◌≡◌, ℕ, ◌-◌, ◌*◌, ◌/◌, ◌%◌, ◌<◌, ◌≤◌, Bool, true, cond, List, length, get_or, map, All, Option, Some, None, sym, ◌∙◌, ap, subst, arith, inl, inr}
+use Rattle.std.proofs.lemmas.List.{get_or-map}
 use Rattle.std.proofs.lemmas.List.FromFn.{length-map-range_with_len}
 use Rattle.pim_aig.specs.Graph.{AigView, nodes}
 use Rattle.pim_graph.specs.Allotments.{AllotmentView, IsAllotment, IsOver, taken_at}
 use Rattle.pim_graph.specs.Graphs.{GraphView, has, kids_of}
 use Rattle.pim_graph.specs.Orders.{order}
-use Rattle.pim_graph.specs.Peaks.{IsPlaced, read_by}
-use Rattle.pim_graph.specs.Readers.{occurrences, reads}
-use Rattle.pim_rm3.specs.Gates.{ands_read, gate_graph, gate_of, gates, is_single, taken, taken_of}
+use Rattle.pim_graph.specs.Peaks.{IsPlaced}
+use Rattle.pim_rm3.specs.Gates.{ands_read, gate_graph, gate_of, gates, taken, taken_of}
+use Rattle.pim_rm3.specs.Taking.{can_be_taken}
 use Rattle.pim_rm3.specs.declared.gate.Gate.TheVariants as gate
 use Rattle.pim_rm3.proofs.GateKinds.{Kind, kind_of, kids_at, and_of, first_read, second_read}
 use Rattle.pim_rm3.proofs.GateKinds.Kind.{constant, inverse, input, meet}
 use Rattle.pim_rm3.proofs.Rows.{bool_cases}
+use Rattle.pim_rm3.proofs.TakenCells.{IsTakeable, spent, takeable}
 
 pub kids_count : (g : AigView) → length (gate_graph g).kids ≡ 2 * nodes g
 kids_count g = length-map-range_with_len (λ k. ands_read g (gate_of g k)) 0 (2 * nodes g)
@@ -40,59 +39,6 @@ at_there g xs i all is h =
     let len = ap (λ (ys : List ℕ). length ys) is in
     subst M (sym is) (all i 0 (omega arith))
 
-pub or_lt : (a b : ℕ) (p q : Bool) → p ≡ nat_lt 0 a → q ≡ nat_lt 0 b → (p || q) ≡ nat_lt 0 (a + b)
-or_lt a b p q e f = grind (arith, nat_tests)
-
-one_lt : (b : Bool) → b ≡ nat_lt 0 (cond b 1 0)
-one_lt true = refl
-one_lt false = refl
-
-pub has-occurrences : (xs : List ℕ) (x : ℕ) → has xs x ≡ nat_lt 0 (occurrences xs x)
-has-occurrences [] x = refl
-has-occurrences (y ∷ ys) x = or_lt (cond (eqb y x) 1 0) (occurrences ys x) (eqb y x) (has ys x) (one_lt (eqb y x)) (has-occurrences ys x)
-
-pub lt_some : (n : ℕ) → nat_lt 0 n ≡ true → 0 < n
-lt_some n h = grind (arith, nat_tests)
-
-pub lt_none : (n : ℕ) → n ≡ 0 → nat_lt 0 n ≡ false
-lt_none n h = grind (arith, nat_tests)
-
-pub reads_drop : (v : GraphView) (xs : List ℕ) (p x : ℕ) → reads v (drop p xs) x ≤ reads v xs x
-reads_drop v [] zero x = omega arith
-reads_drop v [] (suc p) x = omega arith
-reads_drop v (y ∷ ys) zero x = omega arith
-reads_drop v (y ∷ ys) (suc p) x = let a = reads_drop v ys p x in omega arith
-
--- what a single literal is
-record IsSingle (g : AigView) (l : ℕ) : Type 0 where
-  even : l % 2 ≡ 0
-  above : g.inputs < l / 2
-  no_root : has (gate_graph g).roots l ≡ false
-  once : reads (gate_graph g) (gates g) l ≡ 1
-
-pub and_both : (a b : Bool) → (a && b) ≡ true → (a ≡ true) × (b ≡ true)
-and_both true b h = (refl, h)
-and_both false b h = absurd (false≢true h)
-
-pub not_true : (b : Bool) → not b ≡ true → b ≡ false
-not_true true h = absurd (false≢true h)
-not_true false h = refl
-
-pub is_eq : (a b : ℕ) → eqb a b ≡ true → a ≡ b
-is_eq a b h = grind (arith, nat_tests)
-
-pub is_lt : (a b : ℕ) → nat_lt a b ≡ true → a < b
-is_lt a b h = grind (arith, nat_tests)
-
-single_means : (g : AigView) (l : ℕ) → is_single g l ≡ true → IsSingle g l
-single_means g l h =
-    let R = has (gate_graph g).roots l in
-    let E = eqb (reads (gate_graph g) (gates g) l) 1 in
-    let a = and_both ((eqb (l % 2) 0 && nat_lt g.inputs (l / 2)) && not R) E h in
-    let b = and_both (eqb (l % 2) 0 && nat_lt g.inputs (l / 2)) (not R) a.0 in
-    let d = and_both (eqb (l % 2) 0) (nat_lt g.inputs (l / 2)) b.0 in
-    record { even = is_eq (l % 2) 0 d.0; above = is_lt g.inputs (l / 2) d.1; no_root = not_true R b.1; once = is_eq (reads (gate_graph g) (gates g) l) 1 a.1 }
-
 pub some_same : (c d : ℕ) → Some c ≡ Some d → c ≡ d
 some_same c d e = cc
 
@@ -101,8 +47,8 @@ none_some o c n e = cc
 
 -- the gate that an AND takes over is one of its operands, and single
 pub data IsTakenOver (g : AigView) (l c : ℕ) : Type 0 where
-  by_first : l % 2 ≡ 0 → g.inputs < l / 2 → c ≡ (and_of g (l / 2 - 1 - g.inputs)).x.0 → is_single g c ≡ true → IsTakenOver g l c
-  by_second : l % 2 ≡ 0 → g.inputs < l / 2 → c ≡ (and_of g (l / 2 - 1 - g.inputs)).y.0 → is_single g c ≡ true → IsTakenOver g l c
+  by_first : l % 2 ≡ 0 → g.inputs < l / 2 → c ≡ (and_of g (l / 2 - 1 - g.inputs)).x.0 → IsTakeable g.inputs (gate_graph g) c → IsTakenOver g l c
+  by_second : l % 2 ≡ 0 → g.inputs < l / 2 → c ≡ (and_of g (l / 2 - 1 - g.inputs)).y.0 → IsTakeable g.inputs (gate_graph g) c → IsTakenOver g l c
 
 taken_means : (g : AigView) (l c : ℕ) → Kind g l → taken g l ≡ Some c → IsTakenOver g l c
 taken_means g l c (constant z is) e = absurd (none_some (taken g l) c (ap (taken_of g) is) e)
@@ -111,16 +57,17 @@ taken_means g l c (input s o i is) e = absurd (none_some (taken g l) c (ap (take
 taken_means g l c (meet even above is) e =
     let x = (and_of g (l / 2 - 1 - g.inputs)).x in
     let y = (and_of g (l / 2 - 1 - g.inputs)).y in
-    let whole : taken g l ≡ cond (is_single g x.0) (Some x.0) (cond (is_single g y.0) (Some y.0) None) = ap (taken_of g) is in
-    elim (bool_cases (is_single g x.0)) [
+    let free = can_be_taken g.inputs (gate_graph g) in
+    let whole : taken g l ≡ cond (free x.0) (Some x.0) (cond (free y.0) (Some y.0) None) = ap (taken_of g) is in
+    elim (bool_cases (free x.0)) [
       | inl t ↦
-          let same : c ≡ x.0 = some_same c x.0 (sym e ∙ whole ∙ ap (λ (b : Bool). cond b (Some x.0) (cond (is_single g y.0) (Some y.0) None)) t) in
-          by_first even above same (ap (is_single g) same ∙ t)
-      | inr f ↦ elim (bool_cases (is_single g y.0)) [
+          let same : c ≡ x.0 = some_same c x.0 (sym e ∙ whole ∙ ap (λ (b : Bool). cond b (Some x.0) (cond (free y.0) (Some y.0) None)) t) in
+          by_first even above same (takeable g.inputs (gate_graph g) c (ap free same ∙ t))
+      | inr f ↦ elim (bool_cases (free y.0)) [
         | inl t ↦
-            let same : c ≡ y.0 = some_same c y.0 (sym e ∙ whole ∙ ap (λ (b : Bool). cond b (Some x.0) (cond (is_single g y.0) (Some y.0) None)) f ∙ ap (λ (b : Bool). cond b (Some y.0) None) t) in
-            by_second even above same (ap (is_single g) same ∙ t)
-        | inr u ↦ absurd (none_some (taken g l) c (whole ∙ ap (λ (b : Bool). cond b (Some x.0) (cond (is_single g y.0) (Some y.0) None)) f ∙ ap (λ (b : Bool). cond b (Some y.0) None) u) e)
+            let same : c ≡ y.0 = some_same c y.0 (sym e ∙ whole ∙ ap (λ (b : Bool). cond b (Some x.0) (cond (free y.0) (Some y.0) None)) f ∙ ap (λ (b : Bool). cond b (Some y.0) None) t) in
+            by_second even above same (takeable g.inputs (gate_graph g) c (ap free same ∙ t))
+        | inr u ↦ absurd (none_some (taken g l) c (whole ∙ ap (λ (b : Bool). cond b (Some x.0) (cond (free y.0) (Some y.0) None)) f ∙ ap (λ (b : Bool). cond b (Some y.0) None) u) e)
       ]
     ]
 
@@ -140,44 +87,33 @@ taken_child : (g : AigView) (l c : ℕ) → l < 2 * nodes g → IsTakenOver g l 
 taken_child g l c h (by_first even above same single) =
     let x = (and_of g (l / 2 - 1 - g.inputs)).x in
     let y = (and_of g (l / 2 - 1 - g.inputs)).y in
-    let s = single_means g c single in
-    let over : g.inputs < x.0 / 2 = let e = ap (λ (k : ℕ). k / 2) same in omega (arith, s.above) in
-    let plain : 2 * (x.0 / 2) ≡ c = omega (arith, s.even) in
+    let over : g.inputs < x.0 / 2 = let e = ap (λ (k : ℕ). k / 2) same in omega (arith, single.above) in
+    let plain : 2 * (x.0 / 2) ≡ c = omega (arith, single.even) in
     ap (λ (xs : List ℕ). has xs c) (kids_at g l h ∙ ap (ands_read g) (meet_is g l even above)) ∙ ap (has (ands_read g (gate.And x y))) (sym plain) ∙ first_read g x y over
 taken_child g l c h (by_second even above same single) =
     let x = (and_of g (l / 2 - 1 - g.inputs)).x in
     let y = (and_of g (l / 2 - 1 - g.inputs)).y in
-    let s = single_means g c single in
-    let over : g.inputs < y.0 / 2 = let e = ap (λ (k : ℕ). k / 2) same in omega (arith, s.above) in
-    let plain : 2 * (y.0 / 2) ≡ c = omega (arith, s.even) in
+    let over : g.inputs < y.0 / 2 = let e = ap (λ (k : ℕ). k / 2) same in omega (arith, single.above) in
+    let plain : 2 * (y.0 / 2) ≡ c = omega (arith, single.even) in
     ap (λ (xs : List ℕ). has xs c) (kids_at g l h ∙ ap (ands_read g) (meet_is g l even above)) ∙ ap (has (ands_read g (gate.And x y))) (sym plain) ∙ second_read g x y over
 
-taken_single : (g : AigView) (l c : ℕ) → IsTakenOver g l c → IsSingle g c
-taken_single g l c (by_first even above same single) = single_means g c single
-taken_single g l c (by_second even above same single) = single_means g c single
+taken_single : (g : AigView) (l c : ℕ) → IsTakenOver g l c → IsTakeable g.inputs (gate_graph g) c
+taken_single g l c (by_first even above same single) = single
+taken_single g l c (by_second even above same single) = single
 
 -- the gates that are taken over, by places
 pub taken_map : (g : AigView) (p : ℕ) → p < length (gates g) → taken_at (map (taken g) (gates g)) p ≡ taken g (get_or (gates g) p 0)
 taken_map g p h = get_or-map (taken g) (gates g) p 0 None h
 
 -- each gate that is taken over is a child, and needed no longer
-pub over_sound : (g : AigView) → ((v : GraphView) (readers : List ℕ) (x : ℕ) → read_by v readers x ≡ nat_lt 0 (reads v readers x)) → All (λ l. l < 2 * nodes g) (gates g) → IsOver (gate_graph g) (gates g) (map (taken g) (gates g))
-over_sound g law all = record {
+pub over_sound : (g : AigView) → All (λ l. l < 2 * nodes g) (gates g) → IsOver (gate_graph g) (gates g) (map (taken g) (gates g))
+over_sound g all = record {
   child = λ p c h e.
       taken_child g (get_or (gates g) p 0) c (all p 0 h) (taken_over g (get_or (gates g) p 0) c (sym (taken_map g p h) ∙ e));
   last = λ p c h e.
-      let v = gate_graph g in
-      let xs = gates g in
-      let l = get_or xs p 0 in
+      let l = get_or (gates g) p 0 in
       let over = taken_over g l c (sym (taken_map g p h) ∙ e) in
-      let s = taken_single g l c over in
-      let some = lt_some (occurrences (kids_of v l) c) (sym (has-occurrences (kids_of v l) c) ∙ taken_child g l c (all p 0 h) over) in
-      let cut : reads v (drop p xs) c ≡ occurrences (kids_of v l) c + reads v (drop (p + 1) xs) c = ap (λ (ys : List ℕ). reads v ys c) (drop_more xs p 0 h) in
-      let less = reads_drop v xs p c in
-      let once = s.once in
-      let none : reads v (drop (p + 1) xs) c ≡ 0 = omega arith in
-      let unread : read_by v (drop (p + 1) xs) c ≡ false = law v (drop (p + 1) xs) c ∙ lt_none (reads v (drop (p + 1) xs) c) none in
-      ap (λ (b : Bool). b || has v.roots c) unread ∙ s.no_root;
+      spent g.inputs (gate_graph g) p c (taken_single g l c over) h (taken_child g l c (all p 0 h) over);
 }
 
 -- an allotment of what is the same

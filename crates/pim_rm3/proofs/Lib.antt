@@ -12,6 +12,7 @@ pub mod Walks
 pub mod Stepping
 pub mod RoleLaws
 pub mod StepLaws
+pub mod TakenCells
 pub mod FullKids
 pub mod FullOrders
 pub mod FullSound

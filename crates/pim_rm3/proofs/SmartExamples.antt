@@ -9,7 +9,8 @@ use Rattle.pim_mig.specs.Graph.{MigView}
 use Rattle.pim_mig.specs.declared.node.Maj.{Maj}
 use Rattle.pim_rm3.specs.Roles.{least_role, role, role_cost, roles}
 use Rattle.pim_rm3.specs.SmartSchedules.{smart_schedule}
-use Rattle.pim_rm3.specs.Steps.{can_be_taken, enough_of, mig_gates, smart_cost, step_of}
+use Rattle.pim_rm3.specs.Steps.{enough_of, mig_gates, mig_graph, smart_cost, step_of}
+use Rattle.pim_rm3.specs.Taking.{can_be_taken}
 use Rattle.pim_rm3.specs.Temporaries.{full_order, full_over}
 use Rattle.pim_rm3.specs.declared.step.Step.TheVariants as step
 
@@ -84,8 +85,8 @@ all_complemented : least_role (vote 3 5 7) false false false ≡ role (lit 3) (l
 all_complemented = refl
 
 -- ---- a node whose complement is an output lends no cell
-lent : can_be_taken (record { inputs = 3; nodes = vote 2 4 6 ∷ vote 8 2 5 ∷ []; outputs = lit 10 ∷ [] }) (lit 8) ≡ true
+lent : can_be_taken 3 (mig_graph (record { inputs = 3; nodes = vote 2 4 6 ∷ vote 8 2 5 ∷ []; outputs = lit 10 ∷ [] })) 8 ≡ true
 lent = refl
 
-not_lent : can_be_taken (record { inputs = 3; nodes = vote 2 4 6 ∷ vote 8 2 5 ∷ []; outputs = lit 10 ∷ lit 9 ∷ [] }) (lit 8) ≡ false
+not_lent : can_be_taken 3 (mig_graph (record { inputs = 3; nodes = vote 2 4 6 ∷ vote 8 2 5 ∷ []; outputs = lit 10 ∷ lit 9 ∷ [] })) 8 ≡ false
 not_lent = refl

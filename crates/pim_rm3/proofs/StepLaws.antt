@@ -1,5 +1,5 @@
 -- How the gates of a majority graph are computed, and which gates read which, with temporaries as gates and without.
-use Rattle.std.proofs.Common.{◌≡◌, ◌≢◌, ℕ, ◌+◌, ◌-◌, ◌*◌, ◌/◌, ◌%◌, ◌<◌, ◌≤◌, Bool, true, false, cond, eqb, nat_le, nat_lt, List, [], ◌∷◌, ◌++◌, length, get_or, map, All, Option, Some, None, refl, sym, ◌∙◌, ap, subst, arith, inl, inr, length-append}
+use Rattle.std.proofs.Common.{◌≡◌, ℕ, ◌+◌, ◌-◌, ◌*◌, ◌/◌, ◌%◌, ◌<◌, ◌≤◌, Bool, true, false, cond, eqb, nat_le, nat_lt, List, [], ◌∷◌, ◌++◌, length, All, Option, Some, None, refl, sym, ◌∙◌, ap, subst, arith, inl, inr, length-append}
 use Rattle.std.proofs.lemmas.Bool.{false≢true}
 use Rattle.std.proofs.lemmas.Bool.Decides.{nat_tests, eqb_tells, leb_tells}
 use Rattle.std.proofs.lemmas.List.Elements.{All-append, All-cons}
@@ -12,7 +12,8 @@ use Rattle.pim_mig.specs.Graph.{IsMig, MigView, size}
 use Rattle.pim_mig.specs.declared.node.Maj.{Maj}
 use Rattle.pim_rm3.specs.Roles.{is_plain, least_role, temporary}
 use Rattle.pim_rm3.specs.Schedules.{is_inverted}
-use Rattle.pim_rm3.specs.Steps.{can_be_taken, gate_reads, maj_at, mig_gates, mig_graph, node_read, nodes_read, step_of, voted}
+use Rattle.pim_rm3.specs.Steps.{gate_reads, maj_at, mig_gates, mig_graph, node_read, nodes_read, step_of, voted}
+use Rattle.pim_rm3.specs.Taking.{can_be_taken}
 use Rattle.pim_rm3.specs.Temporaries.{all_reads, full_graph, gate_number, gate_read, own_temporary, step_reads, temporary_of, temporary_reads}
 use Rattle.pim_rm3.specs.inner.Operands.{IsBelow, StepsBelow}
 use Rattle.pim_rm3.specs.declared.role.Role.{Role}
@@ -45,7 +46,7 @@ step_kind g l = elim (eqb_tells (l / 2) 0) [
 
 -- the roles of a literal's majority node
 abbrev pub role_at : MigView → ℕ → Role
-role_at g l = least_role (maj_at g l) (can_be_taken g (maj_at g l).x) (can_be_taken g (maj_at g l).y) (can_be_taken g (maj_at g l).z)
+role_at g l = least_role (maj_at g l) (can_be_taken g.inputs (mig_graph g) (maj_at g l).x.0) (can_be_taken g.inputs (mig_graph g) (maj_at g l).y.0) (can_be_taken g.inputs (mig_graph g) (maj_at g l).z.0)
 
 -- ---- what gates read
 pub kids_count : (g : MigView) → length (mig_graph g).kids ≡ 2 * size g
@@ -154,7 +155,7 @@ roles_read g l k o =
     let d = shift i m.y m.x m.z k b in
     let e = turn i m.x m.z m.y k a in
     let f = turn i m.y m.z m.x k d in
-    least_in (λ r. ReadsOne i r.p r.q r.z k) m (can_be_taken g m.x) (can_be_taken g m.y) (can_be_taken g m.z) o a b d e f
+    least_in (λ r. ReadsOne i r.p r.q r.z k) m (can_be_taken g.inputs (mig_graph g) m.x.0) (can_be_taken g.inputs (mig_graph g) m.y.0) (can_be_taken g.inputs (mig_graph g) m.z.0) o a b d e f
 
 pub read_roles : (g : MigView) (l k : ℕ) → ReadsOne g.inputs (role_at g l).p (role_at g l).q (role_at g l).z k → ReadsOne g.inputs (maj_at g l).x (maj_at g l).y (maj_at g l).z k
 read_roles g l k =
@@ -165,7 +166,7 @@ read_roles g l k =
     let d = λ (o : ReadsOne i m.y m.z m.x k). b (shift i m.y m.z m.x k o) in
     let e = λ (o : ReadsOne i m.z m.x m.y k). a (turn i m.z m.x m.y k o) in
     let f = λ (o : ReadsOne i m.z m.y m.x k). d (turn i m.z m.y m.x k o) in
-    least_in (λ r. ReadsOne i r.p r.q r.z k → ReadsOne i m.x m.y m.z k) m (can_be_taken g m.x) (can_be_taken g m.y) (can_be_taken g m.z) (λ o. o) a b d e f
+    least_in (λ r. ReadsOne i r.p r.q r.z k → ReadsOne i m.x m.y m.z k) m (can_be_taken g.inputs (mig_graph g) m.x.0) (can_be_taken g.inputs (mig_graph g) m.y.0) (can_be_taken g.inputs (mig_graph g) m.z.0) (λ o. o) a b d e f
 
 -- ---- where operands stand
 -- the operands of a node have lower numbers than this
@@ -186,7 +187,7 @@ role_below : (g : MigView) (l : ℕ) → IsMig g → l < 2 * size g → g.inputs
 role_below g l small h above =
     let m = maj_at g l in
     let t = maj_below g l small h above in
-    least_in (IsBelow l) m (can_be_taken g m.x) (can_be_taken g m.y) (can_be_taken g m.z)
+    least_in (IsBelow l) m (can_be_taken g.inputs (mig_graph g) m.x.0) (can_be_taken g.inputs (mig_graph g) m.y.0) (can_be_taken g.inputs (mig_graph g) m.z.0)
     (t.0, t.1, t.2) (t.0, t.2, t.1) (t.1, t.0, t.2) (t.1, t.2, t.0) (t.2, t.0, t.1) (t.2, t.1, t.0)
 
 below_by : (g : MigView) (l : ℕ) → IsMig g → l < 2 * size g → StepKind g l → StepsBelow l (step_of g l)

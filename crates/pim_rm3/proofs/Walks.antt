@@ -1,5 +1,5 @@
 -- The row after the gates up to a place: each gate that is needed there has its value in its cell.
-use Rattle.std.proofs.Common.{◌≡◌, ◌≢◌, ◌⊎◌, ℕ, zero, suc, ◌+◌, ◌-◌, ◌*◌, ◌/◌, ◌%◌, ◌<◌, ◌≤◌, Bool, true, false, cond, eqb, nat_le, nat_lt, ◌&&◌, List, [], ◌∷◌, ◌++◌, length, get_or, take, drop, fold, map, Option, Some, None, refl, sym, ◌∙◌, ap, subst, arith, inl, inr}
+use Rattle.std.proofs.Common.{◌≡◌, ◌≢◌, ◌⊎◌, ℕ, zero, suc, ◌-◌, ◌*◌, ◌/◌, ◌%◌, ◌<◌, ◌≤◌, Bool, true, false, cond, eqb, nat_le, nat_lt, ◌&&◌, List, [], ◌∷◌, ◌++◌, length, get_or, take, drop, fold, map, Option, Some, None, refl, sym, ◌∙◌, ap, subst, arith, inl, inr}
 use Rattle.std.proofs.lemmas.Bool.{false≢true, and_parts, eqb-true, leb-true, ltb-true}
 use Rattle.std.proofs.lemmas.Bool.Decides.{nat_tests, eqb_tells, leb_tells}
 use Rattle.std.proofs.lemmas.List.FromFn.{length-map-range_with_len}
@@ -21,7 +21,7 @@ use Rattle.pim_rm3.specs.declared.gate.Gate.{Gate}
 use Rattle.pim_rm3.specs.declared.gate.Gate.TheVariants as gate
 use Rattle.pim_rm3.specs.inner.Settled.{IsSettled}
 use Rattle.pim_rm3.proofs.Lists.{all_has, split, last, has_whole, has_front}
-use Rattle.pim_rm3.proofs.GateKinds.{Kind, kind_of, kids_at, and_of, first_read, second_read, inverse_read, node_value, lit_value, plain_value, zero_value, input_value, meet_value, constant_value}
+use Rattle.pim_rm3.proofs.GateKinds.{Kind, kind_of, kids_at, and_of, first_read, second_read, inverse_child, node_value, lit_value, plain_value, zero_value, input_value, meet_value, constant_value}
 use Rattle.pim_rm3.proofs.GateKinds.Kind.{constant, inverse, input, meet}
 use Rattle.pim_rm3.proofs.GateOrders.{IsTakenOver, taken_over, taken_map}
 use Rattle.pim_rm3.proofs.GateOrders.IsTakenOver.{by_first, by_second}
@@ -206,14 +206,7 @@ gate_gives g a bits m p laws s len holds h (inverse some odd is) =
     let z = get_or a.cells l 0 in
     let e : Lit = record { 0 = l } in
     let fits : z < length m = let b = s.allotted.within l (has_whole (gates g) p h) in omega (arith, holds.wide) in
-    let below = s.there p 0 h in
-    let child = λ (above : g.inputs < l / 2).
-    let half : 2 * ((l - 1) / 2) ≡ 2 * (l / 2) = omega arith in
-    let over : g.inputs < (l - 1) / 2 = omega arith in
-    ap (λ (xs : List ℕ). has xs (2 * (l / 2))) (kids_at g l below ∙ ap (ands_read g) is)
-    ∙ ap (has (ands_read g (gate.Not (record { 0 = l - 1 })))) (sym half)
-    ∙ inverse_read g (record { 0 = l - 1 }) over in
-    let reads = reads_one g a bits m p e s len holds h child in
+    let reads = reads_one g a bits m p e s len holds h (inverse_child g l (s.there p 0 h) odd is) in
     ap (λ (t : Gate). bit (exec (gate_instrs g a.cells z (taken g l) l t) m) z) is
     ∙ load_gives g.inputs a.cells m z e fits (reads.apart (ap (taken_of g) is))
     ∙ reads.value

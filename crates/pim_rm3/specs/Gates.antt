@@ -1,12 +1,12 @@
 -- The gates of an and-inverter graph. A gate is the literal whose value it computes, by its number.
-use Rattle.std.specs.Prelude.{ℕ, ◌-◌, ◌*◌, ◌/◌, ◌%◌, ◌==◌, ◌&&◌, nat_le, nat_lt, not, Bool, if◌then◌else◌, List, [], ◌∷◌, ◌++◌, fold, map, slice_index_or, Option, Some, None}
+use Rattle.std.specs.Prelude.{ℕ, ◌-◌, ◌*◌, ◌/◌, ◌%◌, ◌==◌, ◌&&◌, nat_le, nat_lt, Bool, if◌then◌else◌, List, [], ◌∷◌, ◌++◌, fold, map, slice_index_or, Option, Some, None}
 use Rattle.std.specs.List.{range_with_len}
 use Rattle.pim_aig.specs.Graph.{AigView, nodes}
 use Rattle.pim_aig.specs.declared.graph.And.{And}
 use Rattle.pim_aig.specs.declared.literal.Lit.{Lit}
 use Rattle.pim_graph.specs.Graphs.{GraphView, has}
 use Rattle.pim_graph.specs.Orders.{order}
-use Rattle.pim_graph.specs.Readers.{reads}
+use Rattle.pim_rm3.specs.Taking.{can_be_taken}
 use Rattle.pim_rm3.specs.declared.gate.Gate.{Gate}
 use Rattle.pim_rm3.specs.declared.gate.Gate.TheVariants as gate
 
@@ -56,18 +56,14 @@ gate_graph g = record {
 abbrev pub gates : AigView → List ℕ
 gates g = order (gate_graph g)
 
--- the literal is that of an AND node which is no output and is read once
-abbrev pub is_single : AigView → ℕ → Bool
-is_single g l =
-    l % 2 == 0 && nat_lt g.inputs (l / 2) && not (has (gate_graph g).roots l)
-    && (reads (gate_graph g) (gates g) l == 1)
-
--- the operand whose cell an AND takes over: its first one that is single
+-- the operand whose cell an AND takes over: its first one whose cell can be taken over
 abbrev pub taken_of : AigView → Gate → Option ℕ
 taken_of g (gate.Constant b) = None
 taken_of g gate.Input = None
 taken_of g (gate.Not m) = None
-taken_of g (gate.And x y) = if is_single g x.0 then Some x.0 else (if is_single g y.0 then Some y.0 else None)
+taken_of g (gate.And x y) =
+    if can_be_taken g.inputs (gate_graph g) x.0 then Some x.0
+    else (if can_be_taken g.inputs (gate_graph g) y.0 then Some y.0 else None)
 
 -- the same of the gate of a number
 abbrev pub taken : AigView → ℕ → Option ℕ

@@ -1,4 +1,5 @@
 pub mod inner
+pub mod Taking
 pub mod Gates
 pub mod Schedules
 pub mod Costs

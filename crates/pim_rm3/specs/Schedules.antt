@@ -56,11 +56,11 @@ load inputs cells z e =
 -- the instructions of the gate of a literal, on its cell. An AND that takes an operand's cell over narrows it by the other
 -- operand; any other one loads the first operand and narrows that by the second
 abbrev pub gate_instrs : AigView → List ℕ → ℕ → Option ℕ → ℕ → Gate → List Instr
-gate_instrs g cells z over l (gate.Constant b) = set_to b z ∷ []
-gate_instrs g cells z over l gate.Input = []
-gate_instrs g cells z over l (gate.Not m) = load g.inputs cells z (record { 0 = l })
-gate_instrs g cells z None l (gate.And x y) = load g.inputs cells z x ++ narrow g.inputs cells z y ∷ []
-gate_instrs g cells z (Some c) l (gate.And x y) = narrow g.inputs cells z (if x.0 == c then y else x) ∷ []
+gate_instrs g cells z over literal (gate.Constant b) = set_to b z ∷ []
+gate_instrs g cells z over literal gate.Input = []
+gate_instrs g cells z over literal (gate.Not m) = load g.inputs cells z (record { 0 = literal })
+gate_instrs g cells z None literal (gate.And x y) = load g.inputs cells z x ++ narrow g.inputs cells z y ∷ []
+gate_instrs g cells z (Some over) literal (gate.And x y) = narrow g.inputs cells z (if x.0 == over then y else x) ∷ []
 
 -- the same of a gate of the graph
 abbrev pub instrs_at : AigView → List ℕ → ℕ → List Instr

@@ -1,15 +1,15 @@
 -- The gates of a majority graph, and how each is computed. A gate is the literal whose value it computes, by its number.
-use Rattle.std.specs.Prelude.{ℕ, ◌+◌, ◌-◌, ◌*◌, ◌/◌, ◌%◌, ◌==◌, ◌&&◌, nat_le, nat_lt, not, Bool, if◌then◌else◌, List, [], ◌∷◌, ◌++◌, fold, map, slice_index_or, sum_by}
+use Rattle.std.specs.Prelude.{ℕ, ◌+◌, ◌-◌, ◌*◌, ◌/◌, ◌%◌, ◌==◌, nat_le, nat_lt, if◌then◌else◌, List, [], ◌∷◌, ◌++◌, fold, map, slice_index_or, sum_by}
 use Rattle.std.specs.List.{range_with_len}
 use Rattle.pim_aig.specs.declared.literal.Lit.{Lit}
-use Rattle.pim_graph.specs.Graphs.{GraphView, has}
+use Rattle.pim_graph.specs.Graphs.{GraphView}
 use Rattle.pim_graph.specs.Orders.{order}
 use Rattle.pim_graph.specs.Peaks.{peak}
-use Rattle.pim_graph.specs.Readers.{reads}
 use Rattle.pim_mig.specs.Graph.{MigView, size}
 use Rattle.pim_mig.specs.declared.node.Maj.{Maj}
 use Rattle.pim_rm3.specs.Gates.{with_root}
 use Rattle.pim_rm3.specs.Roles.{least_role, role_cost}
+use Rattle.pim_rm3.specs.Taking.{can_be_taken}
 use Rattle.pim_rm3.specs.declared.step.Step.{Step}
 use Rattle.pim_rm3.specs.declared.step.Step.TheVariants as step
 
@@ -43,15 +43,11 @@ mig_graph g = record {
 abbrev pub mig_gates : MigView → List ℕ
 mig_gates g = order (mig_graph g)
 
--- the literal is the plain one of a majority node that no output is of and that is read once, so that its reader can take its cell over
-abbrev pub can_be_taken : MigView → Lit → Bool
-can_be_taken g e =
-    e.0 % 2 == 0 && nat_lt g.inputs (e.0 / 2) && not (has (mig_graph g).roots e.0)
-    && (reads (mig_graph g) (mig_gates g) e.0 == 1)
-
 -- how a majority node is computed: by the roles that cost least
 abbrev pub voted : MigView → Maj → Step
-voted g m = step.Vote (least_role m (can_be_taken g m.x) (can_be_taken g m.y) (can_be_taken g m.z))
+voted g m =
+    let taken = can_be_taken g.inputs (mig_graph g) in
+    step.Vote (least_role m (taken m.x.0) (taken m.y.0) (taken m.z.0))
 
 -- how the gate of a literal is computed
 abbrev pub step_of : MigView → ℕ → Step

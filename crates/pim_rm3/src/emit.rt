@@ -1,10 +1,8 @@
-ghost use Rattle.std.specs.Prelude.{◌≡◌, ◌*◌, ◌<◌, ◌≤◌, ◌∷◌, ◌++◌, ◌^◌, All, length, map, slice_index, OnOk};
+ghost use Rattle.std.specs.Prelude.{◌≡◌, ◌*◌, ◌<◌, ◌++◌, All, length, map, slice_index, OnOk};
 ghost use Rattle.pim_aig.specs.Graph.{nodes};
-ghost use Rattle.pim_isa.specs.PortLists.{input_ports};
-ghost use Rattle.pim_isa.specs.declared.instr.Instr.TheVariants as instr_is;
 ghost use Rattle.pim_rm3.specs.Gates.{gate_of, gates, taken};
 ghost use Rattle.pim_rm3.specs.declared.gate.Gate.TheVariants as gate_is;
-ghost use Rattle.pim_rm3.specs.Schedules.{cell_of, gate_instrs, is_inverted, load, narrow, narrow_by, operand_of, output_cell, output_ports, schedule, set_to, settled};
+ghost use Rattle.pim_rm3.specs.Schedules.{cell_of, gate_instrs, is_inverted, narrow, narrow_by, operand_of, schedule, set_to, settled};
 
 use crate::gate::{Gate, gate_of};
 use crate::loads::{add_load, cell_of, is_inverted, operand_of, rm3, set_to};

@@ -17,6 +17,7 @@ mod smart_schedule;
 #[cfg(test)]
 mod smart_tests;
 mod step;
+mod taking;
 mod temporaries;
 #[cfg(test)]
 mod tests;

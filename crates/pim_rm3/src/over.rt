@@ -2,28 +2,17 @@ ghost use Rattle.std.specs.Prelude.{◌≡◌, ◌*◌, ◌^◌, ◌<◌, ◌≤
 ghost use Rattle.pim_aig.specs.Graph.{nodes};
 ghost use Rattle.pim_graph.specs.Allotments.{IsOver};
 ghost use Rattle.pim_graph.specs.Readers.{CountsReads};
-ghost use Rattle.pim_rm3.specs.Gates.{gate_graph, gates, is_single, taken};
+ghost use Rattle.pim_rm3.specs.Gates.{gate_graph, gates, taken};
 
 use crate::gate::{Gate, gate_of};
-use pim_aig::{Aig, Lit};
+use crate::taking::can_be_taken;
+use pim_aig::Aig;
 use pim_graph::{Graph, Readers};
 use pim_io::NoMemory;
 use std::alloc::Global;
 
-/// Whether the literal is that of an AND node which is no output and is read once.
-fn is_single(aig: &Aig, graph: &Graph, readers: &Readers, literal: Lit) -> bool
-    requires graph { graph.now ≡ gate_graph aig.now }
-    requires readers { CountsReads (gate_graph aig.now) (gates aig.now) readers.now }
-    requires there { literal.0 < 2 * nodes aig.now }
-    ensures { result ≡ is_single aig.now literal.0 }
-{
-    literal.0 % 2 == 0
-        && aig.inputs() < literal.0 / 2
-        && !graph.is_root(literal.0)
-        && readers.is_last(literal.0)
-}
-
 /// The operand whose cell a gate takes over, if it takes one over.
+#[tactic(auto, using(crate::proofs::GateOrders::kids_count))]
 fn taken(aig: &Aig, graph: &Graph, readers: &Readers, literal: u32) -> Option<u32>
     requires graph { graph.now ≡ gate_graph aig.now }
     requires readers { CountsReads (gate_graph aig.now) (gates aig.now) readers.now }
@@ -33,9 +22,9 @@ fn taken(aig: &Aig, graph: &Graph, readers: &Readers, literal: u32) -> Option<u3
     let Gate::And(x, y) = gate_of(aig, literal) else {
         return None;
     };
-    if is_single(aig, graph, readers, x) {
+    if can_be_taken(aig.inputs(), graph, readers, x) {
         Some(x.0)
-    } else if is_single(aig, graph, readers, y) {
+    } else if can_be_taken(aig.inputs(), graph, readers, y) {
         Some(y.0)
     } else {
         None
@@ -60,7 +49,6 @@ pub(crate) fn all_taken(
     graph.has_order();
     let readers = Readers::new(alloc, graph, order)?;
     let mut over = Vec::new(alloc);
-    readers.tell_needed();
     for gate in order {
         over.push(taken(aig, graph, &readers, *gate))?;
     }

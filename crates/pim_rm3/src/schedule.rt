@@ -1,4 +1,4 @@
-ghost use Rattle.std.specs.Prelude.{◌≡◌, ◌*◌, ◌^◌, ◌<◌, ◌≤◌, ℕ, true, All, Bool, List, length, map, IfOk, IfErr, OnOk};
+ghost use Rattle.std.specs.Prelude.{◌≡◌, ◌*◌, ◌^◌, ◌<◌, ◌≤◌, ℕ, true, All, length, map, IfOk, IfErr, OnOk};
 ghost use Rattle.pim_aig.specs.Graph.{nodes};
 ghost use Rattle.pim_aig.specs.Values.{aval};
 ghost use Rattle.pim_graph.specs.Graphs.{has};

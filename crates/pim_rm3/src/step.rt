@@ -1,12 +1,13 @@
-ghost use Rattle.std.specs.Prelude.{◌≡◌, ◌*◌, ◌/◌, ◌^◌, ◌<◌, ◌≤◌, length, map, IfOk, OnOk};
+ghost use Rattle.std.specs.Prelude.{◌≡◌, ◌*◌, ◌/◌, ◌^◌, ◌<◌, map, IfOk};
 ghost use Rattle.std.specs.List.{range_with_len};
 ghost use Rattle.pim_graph.specs.Readers.{CountsReads};
 ghost use Rattle.pim_mig.specs.Graph.{size};
 ghost use Rattle.pim_rm3.specs.inner.Operands.{StepsBelow};
-ghost use Rattle.pim_rm3.specs.Steps.{can_be_taken, maj_at, mig_gates, mig_graph, step_of};
+ghost use Rattle.pim_rm3.specs.Steps.{maj_at, mig_gates, mig_graph, step_of};
 
 use crate::mig_graph::literals;
 use crate::role::{Role, least_role};
+use crate::taking::can_be_taken;
 use pim_aig::Lit;
 use pim_graph::{Graph, Readers};
 use pim_io::NoMemory;
@@ -38,20 +39,8 @@ pub(crate) fn maj_at(mig: &Mig, literal: u32) -> Maj
     mig.nodes()[(literal / 2 - 1 - mig.inputs()) as usize]
 }
 
-/// Whether the literal is the plain one of a majority node that is no output's and that is read once.
-fn can_be_taken(mig: &Mig, graph: &Graph, readers: &Readers, literal: Lit) -> bool
-    requires graph { graph.now ≡ mig_graph mig.now }
-    requires readers { CountsReads (mig_graph mig.now) (mig_gates mig.now) readers.now }
-    requires there { literal.0 < 2 * size mig.now }
-    ensures { result ≡ can_be_taken mig.now literal }
-{
-    literal.0 % 2 == 0
-        && mig.inputs() < literal.0 / 2
-        && !graph.is_root(literal.0)
-        && readers.is_last(literal.0)
-}
-
 /// How the gate of a literal is computed.
+#[tactic(auto, using(crate::proofs::StepLaws::kids_count))]
 fn step_of(mig: &Mig, graph: &Graph, readers: &Readers, literal: u32) -> Step
     requires graph { graph.now ≡ mig_graph mig.now }
     requires readers { CountsReads (mig_graph mig.now) (mig_gates mig.now) readers.now }
@@ -65,13 +54,14 @@ fn step_of(mig: &Mig, graph: &Graph, readers: &Readers, literal: u32) -> Step
     if literal % 2 == 1 {
         return Step::Complement(Lit(literal));
     }
-    if node <= mig.inputs() {
+    let inputs = mig.inputs();
+    if node <= inputs {
         return Step::Input;
     }
     let maj = maj_at(mig, literal);
-    let x = can_be_taken(mig, graph, readers, maj.x);
-    let y = can_be_taken(mig, graph, readers, maj.y);
-    let z = can_be_taken(mig, graph, readers, maj.z);
+    let x = can_be_taken(inputs, graph, readers, maj.x);
+    let y = can_be_taken(inputs, graph, readers, maj.y);
+    let z = can_be_taken(inputs, graph, readers, maj.z);
     Step::Vote(least_role(maj, x, y, z))
 }
 

@@ -1,9 +1,9 @@
-ghost use Rattle.std.specs.Prelude.{◌≡◌, ◌*◌, ◌^◌, ◌<◌, ◌≤◌, ◌++◌, ◌∷◌, [], All, flat_map, length, map, IfOk, OnOk, vec_len, Option, ℕ, List};
+ghost use Rattle.std.specs.Prelude.{◌≡◌, ◌*◌, ◌^◌, ◌<◌, ◌++◌, ◌∷◌, [], All, map, IfOk, OnOk, Option};
 ghost use Rattle.std.specs.List.{range_with_len};
 ghost use Rattle.pim_mig.specs.Graph.{size};
 ghost use Rattle.pim_rm3.specs.Steps.{mig_gates, mig_graph, step_of};
 ghost use Rattle.pim_rm3.specs.inner.Operands.{StepsBelow};
-ghost use Rattle.pim_rm3.specs.Temporaries.{all_reads, full_graph, full_order, full_over, gate_number, gate_read, own_temporary, step_reads, step_takes, takes_of, temporary_of, temporary_reads, temporary_takes, with_temporary};
+ghost use Rattle.pim_rm3.specs.Temporaries.{all_reads, full_graph, full_order, full_over, gate_read, own_temporary, step_reads, step_takes, temporary_of, temporary_takes};
 
 use crate::mig_graph::literals;
 use crate::role::temporary;
@@ -48,25 +48,7 @@ fn put_temporary(gates: &mut Vec<u32>, literal: u32, wanted: Option<Lit>) -> Res
     Ok(())
 }
 
-/// Replaces what a list holds by what the temporary for a literal reads.
-fn put_temporary_reads(
-    gates: &mut Vec<u32>,
-    inputs: u32,
-    literal: u32,
-    step: Step,
-) -> Result<(), NoMemory>
-    requires there { literal < 2 ^ 24 }
-    requires below { StepsBelow literal step }
-    ensures { OnOk result (gates.new.items ≡ temporary_reads inputs (temporary_of step)) }
-{
-    gates.clear();
-    match temporary_of(step) {
-        Some(wanted) => put_gate(gates, inputs, wanted),
-        None => Ok(()),
-    }
-}
-
-/// Replaces what a list holds by what the gate of a literal reads.
+/// Puts what the gate of a literal reads at the end of a list.
 fn put_step_reads(
     gates: &mut Vec<u32>,
     inputs: u32,
@@ -75,9 +57,8 @@ fn put_step_reads(
 ) -> Result<(), NoMemory>
     requires there { literal < 2 ^ 24 }
     requires below { StepsBelow literal step }
-    ensures { OnOk result (gates.new.items ≡ step_reads inputs literal step) }
+    ensures { OnOk result (gates.new.items ≡ gates.old.items ++ step_reads inputs literal step) }
 {
-    gates.clear();
     match step {
         Step::Constant(_) => Ok(()),
         Step::Input => Ok(()),
@@ -92,6 +73,7 @@ fn put_step_reads(
 }
 
 /// Replaces what a list holds by what the gate of a number reads: that of a literal, or a temporary.
+#[tactic(auto, using(crate::proofs::StepLaws::all_reads_even, crate::proofs::StepLaws::all_reads_odd))]
 fn put_all_reads(
     gates: &mut Vec<u32>,
     mig: &Mig,
@@ -105,10 +87,13 @@ fn put_all_reads(
     let literal = number / 2;
     let inputs = mig.inputs();
     let step = step_at(mig, steps, literal);
+    gates.clear();
     if number % 2 == 1 {
-        put_step_reads(gates, inputs, literal, step)
-    } else {
-        put_temporary_reads(gates, inputs, literal, step)
+        return put_step_reads(gates, inputs, literal, step);
+    }
+    match temporary_of(step) {
+        Some(wanted) => put_gate(gates, inputs, wanted),
+        None => Ok(()),
     }
 }
 

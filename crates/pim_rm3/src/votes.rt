@@ -1,10 +1,9 @@
-ghost use Rattle.std.specs.Prelude.{◌≡◌, ◌+◌, ◌*◌, ◌^◌, ◌<◌, ◌++◌, ◌∷◌, [], All, length, map, MatchOption, vec_len, IfOk, OnOk};
+ghost use Rattle.std.specs.Prelude.{◌≡◌, ◌+◌, ◌*◌, ◌^◌, ◌<◌, ◌++◌, All, length, map, MatchOption, vec_len, IfOk, OnOk};
 ghost use Rattle.std.specs.List.{range_with_len};
-ghost use Rattle.pim_isa.specs.declared.instr.Instr.TheVariants as instr_is;
 ghost use Rattle.pim_mig.specs.Graph.{size};
-ghost use Rattle.pim_rm3.specs.SmartSchedules.{first_operand, gate_cells, inverse, second_operand, smart_instrs, smart_schedule, step_instrs, temporary_instrs, third_instrs};
+ghost use Rattle.pim_rm3.specs.SmartSchedules.{first_operand, gate_cells, second_operand, smart_instrs, smart_schedule, step_instrs, temporary_instrs, third_instrs};
 ghost use Rattle.pim_rm3.specs.Steps.{mig_gates, step_of};
-ghost use Rattle.pim_rm3.specs.inner.Operands.{IsBelow, StepsBelow};
+ghost use Rattle.pim_rm3.specs.inner.Operands.{StepsBelow};
 
 use crate::loads::{add_load, cell_of, is_inverted, operand_of, rm3, set_to};
 use crate::role::{Role, is_plain};

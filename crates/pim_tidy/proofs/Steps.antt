@@ -1,6 +1,7 @@
 -- What one node more changes, and what all of them keep.
 use Rattle.std.proofs.Common.{◌≡◌, ◌⊎◌, ℕ, zero, suc, ◌+◌, ◌<◌, ◌≤◌, Bool, true, false, cond, List, [], ◌∷◌, ◌++◌, length, get_or, Option, Some, None, refl, sym, ◌∙◌, ap, subst, arith, inl, inr, length-append}
 use Rattle.std.proofs.lemmas.Bool.Decides.{eqb_tells}
+use Rattle.std.proofs.lemmas.List.{get_or_append_left}
 use Rattle.pim_aig.specs.Graph.{AigView}
 use Rattle.pim_aig.specs.Literals.{plain}
 use Rattle.pim_aig.specs.declared.graph.And.{And}
@@ -60,17 +61,8 @@ front_both a b c f g = record {
   same = λ k d h. g.same k d (omega (arith, f.few)) ∙ f.same k d h;
 }
 
-pub get_or_front : (xs ys : List And) (k : ℕ) (d : And) → k < length xs → get_or (xs ++ ys) k d ≡ get_or xs k d
-get_or_front [] ys k d h = absurd (omega arith)
-get_or_front (x ∷ xs) ys zero d h = refl
-get_or_front (x ∷ xs) ys (suc k) d h = get_or_front xs ys k d (omega arith)
-
-pub get_or_last : (xs : List And) (x d : And) → get_or (xs ++ x ∷ []) (length xs) d ≡ x
-get_or_last [] x d = refl
-get_or_last (y ∷ ys) x d = get_or_last ys x d
-
 front_push : (xs : List And) (x : And) → IsFront xs (xs ++ x ∷ [])
-front_push xs x = record { few = omega (arith, length-append xs (x ∷ [])); same = λ k d h. get_or_front xs (x ∷ []) k d h }
+front_push xs x = record { few = omega (arith, length-append xs (x ∷ [])); same = λ k d h. get_or_append_left xs (x ∷ []) d k h }
 
 -- what one join gives: the nodes are there still, at most one is new, and the literal is what the two fold to, or that of a node
 -- which reads the same

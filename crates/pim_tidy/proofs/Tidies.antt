@@ -1,12 +1,14 @@
 -- Each step keeps the nodes tidy.
 use Rattle.std.proofs.Common.{◌≡◌, ◌≢◌, ℕ, ◌+◌, ◌-◌, ◌/◌, ◌%◌, ◌<◌, Bool, true, false, cond, eqb, ◌||◌, List, [], ◌∷◌, ◌++◌, length, get_or, Option, Some, None, refl, sym, ◌∙◌, ap, subst, arith, inl, inr, length-append}
 use Rattle.std.proofs.lemmas.Bool.Decides.{nat_tests, eqb_tells}
+use Rattle.std.proofs.lemmas.List.{get_or_append_left}
+use Rattle.std.proofs.Math.Seq.{get_or-append_seam}
 use Rattle.pim_aig.specs.Literals.{complement}
 use Rattle.pim_aig.specs.declared.graph.And.{And}
 use Rattle.pim_aig.specs.declared.literal.Lit.{Lit}
 use Rattle.pim_tidy.specs.Tidied.{after, folded, joined, moved_and, same_operands, tidied_from, Tidying}
 use Rattle.pim_tidy.specs.Tidy.{AreTidy, IsPlainPair}
-use Rattle.pim_tidy.proofs.Steps.{Joins, get_or_front, get_or_last, joins}
+use Rattle.pim_tidy.proofs.Steps.{Joins, joins}
 use Rattle.pim_tidy.proofs.Steps.Joins.{by_folding, by_node, by_new}
 
 none_of : (b : Bool) (v : Lit) (r : Option Lit) → cond b (Some v) r ≡ None → (b ≡ false) × (r ≡ None)
@@ -47,7 +49,7 @@ plain_pair a h =
     }
 
 at_end : (ands : List And) (a d : And) (k : ℕ) → k ≡ length ands → get_or (ands ++ a ∷ []) k d ≡ a
-at_end ands a d k e = ap (λ (i : ℕ). get_or (ands ++ a ∷ []) i d) e ∙ get_or_last ands a d
+at_end ands a d k e = ap (λ (i : ℕ). get_or (ands ++ a ∷ []) i d) e ∙ get_or-append_seam ands a [] d
 
 tidy_push : (ands : List And) (a : And) → AreTidy ands → IsPlainPair a → ((j : ℕ) (d : And) → j < length ands → same_operands (get_or ands j d) a ≡ false) → AreTidy (ands ++ a ∷ [])
 tidy_push ands a t pair none =
@@ -55,17 +57,17 @@ tidy_push ands a t pair none =
     record {
       each = λ k d h. elim (eqb_tells k (length ands)) [
         | inl e ↦ subst IsPlainPair (sym (at_end ands a d k e.1)) pair
-        | inr o ↦ let l : k < length ands = omega (arith, o.1) in subst IsPlainPair (sym (get_or_front ands (a ∷ []) k d l)) (t.each k d l)
+        | inr o ↦ let l : k < length ands = omega (arith, o.1) in subst IsPlainPair (sym (get_or_append_left ands (a ∷ []) d k l)) (t.each k d l)
       ];
       once = λ j k d before h. elim (eqb_tells k (length ands)) [
         | inl e ↦
             let l : j < length ands = omega (arith, e.1) in
-            ap (λ (b : And). same_operands b (get_or (ands ++ a ∷ []) k d)) (get_or_front ands (a ∷ []) j d l)
+            ap (λ (b : And). same_operands b (get_or (ands ++ a ∷ []) k d)) (get_or_append_left ands (a ∷ []) d j l)
             ∙ ap (same_operands (get_or ands j d)) (at_end ands a d k e.1) ∙ none j d l
         | inr o ↦
             let l : k < length ands = omega (arith, o.1) in
-            ap (λ (b : And). same_operands b (get_or (ands ++ a ∷ []) k d)) (get_or_front ands (a ∷ []) j d (omega arith))
-            ∙ ap (same_operands (get_or ands j d)) (get_or_front ands (a ∷ []) k d l) ∙ t.once j k d before l
+            ap (λ (b : And). same_operands b (get_or (ands ++ a ∷ []) k d)) (get_or_append_left ands (a ∷ []) d j (omega arith))
+            ∙ ap (same_operands (get_or ands j d)) (get_or_append_left ands (a ∷ []) d k l) ∙ t.once j k d before l
       ];
     }
 

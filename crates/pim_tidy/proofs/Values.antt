@@ -3,6 +3,8 @@ use Rattle.std.proofs.Common.{◌≡◌, ◌⊎◌, ℕ, zero, suc, ◌+◌, ◌
 use Rattle.std.proofs.lemmas.Bool.{false≢true}
 use Rattle.std.proofs.lemmas.Bool.Decides.{nat_tests, eqb_tells}
 use Rattle.std.proofs.lemmas.List.FromFn.{get_or-map-range_with_len, length-map-range_with_len}
+use Rattle.std.proofs.lemmas.List.{get_or_append_left}
+use Rattle.std.proofs.Math.Seq.{get_or-append_seam}
 use Rattle.pim_aig.specs.Graph.{AigView, IsAig}
 use Rattle.pim_aig.specs.Laws.{ValueLaws}
 use Rattle.pim_aig.specs.Literals.{complement, plain}
@@ -11,7 +13,7 @@ use Rattle.pim_aig.specs.declared.graph.And.{And}
 use Rattle.pim_aig.specs.declared.literal.Lit.{Lit}
 use Rattle.pim_tidy.specs.Tidied.{after, begun, folded, joined, moved_and, same_operands, tidied_from, Tidying}
 use Rattle.pim_aig.specs.Moving.{moved}
-use Rattle.pim_tidy.proofs.Steps.{IsFront, Joins, front_both, get_or_last, joins, rest_front}
+use Rattle.pim_tidy.proofs.Steps.{IsFront, Joins, front_both, joins, rest_front}
 use Rattle.pim_tidy.proofs.Steps.Joins.{by_folding, by_node, by_new}
 
 -- two graphs of as many inputs, by whose laws values are told
@@ -143,25 +145,16 @@ join_value t bits inputs ands a new l laws same count front (by_node f p h e s m
 join_value t bits inputs ands a new l laws same count front (by_new f n e m) =
     let len = ap (λ (xs : List And). length xs) e in
     let more = length-append ands (a ∷ []) in
-    let at : get_or t.ands (length ands) none ≡ a = front.same (length ands) none (omega arith) ∙ ap (λ (xs : List And). get_or xs (length ands) none) e ∙ get_or_last ands a none in
+    let at : get_or t.ands (length ands) none ≡ a = front.same (length ands) none (omega arith) ∙ ap (λ (xs : List And). get_or xs (length ands) none) e ∙ get_or-append_seam ands a [] none in
     ap (aval t bits) m ∙ node_value t bits inputs (length ands) a laws same count (omega (arith, front.few)) at
-
-lit_front : (xs ys : List Lit) (k : ℕ) (d : Lit) → k < length xs → get_or (xs ++ ys) k d ≡ get_or xs k d
-lit_front [] ys k d h = absurd (omega arith)
-lit_front (x ∷ xs) ys zero d h = refl
-lit_front (x ∷ xs) ys (suc k) d h = lit_front xs ys k d (omega arith)
-
-lit_last : (xs : List Lit) (x d : Lit) → get_or (xs ++ x ∷ []) (length xs) d ≡ x
-lit_last [] x d = refl
-lit_last (y ∷ ys) x d = lit_last ys x d
 
 valued_push : (g t : AigView) (bits : List Bool) (lits : List Lit) (l : Lit) → AreValued g t bits lits → aval t bits l ≡ aval g bits (plain (length lits)) → AreValued g t bits (lits ++ l ∷ [])
 valued_push g t bits lits l v h = record {
   each = λ m d k. elim (eqb_tells m (length lits)) [
-    | inl e ↦ ap (λ (i : ℕ). aval t bits (get_or (lits ++ l ∷ []) i d)) e.1 ∙ ap (aval t bits) (lit_last lits l d) ∙ h ∙ ap (λ (i : ℕ). aval g bits (plain i)) (sym e.1)
+    | inl e ↦ ap (λ (i : ℕ). aval t bits (get_or (lits ++ l ∷ []) i d)) e.1 ∙ ap (aval t bits) (get_or-append_seam lits l [] d) ∙ h ∙ ap (λ (i : ℕ). aval g bits (plain i)) (sym e.1)
     | inr o ↦
         let b : m < length lits = omega (arith, o.1, length-append lits (l ∷ [])) in
-        ap (aval t bits) (lit_front lits (l ∷ []) m d b) ∙ v.each m d b
+        ap (aval t bits) (get_or_append_left lits (l ∷ []) d m b) ∙ v.each m d b
   ];
 }
 

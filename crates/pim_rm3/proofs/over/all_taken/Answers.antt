@@ -9,7 +9,7 @@ taken-requires-clause-there c =
 
 pub returns-clause-sound : goal.returns-clause-sound
 returns-clause-sound c =
-    over_sound c.args.aig.now c.tell_needed.ensures.read (order_there c.args.aig.now c.args.graph.now c.requires.graph c.has_order.ensures.placed)
+    over_sound c.args.aig.now (order_there c.args.aig.now c.args.graph.now c.requires.graph c.has_order.ensures.placed)
 
 pub returns-clause-there : goal.returns-clause-there
 returns-clause-there c = order_there c.args.aig.now c.args.graph.now c.requires.graph c.has_order.ensures.placed

@@ -14,6 +14,18 @@ use Rattle.pim_rm3.proofs.FullPrograms.{cost_within, realizes, schedule_length, 
 use Rattle.pim_rm3.proofs.FullSound.{ordered}
 use Rattle.pim_rm3.proofs.RoleLaws.{least_all}
 use Rattle.pim_rm3.proofs.smart_schedule.smart.Goals as goal
+use Rattle.pim_rm3.proofs.smart_schedule.smart.Goals.{In_ok-draft}
+
+-- what the plan says of the graph and the cells
+ready : (c : In_ok-draft) → IsReady c.args.mig.now c.in_ok-plan.plan.allotment
+ready c = record {
+  small = c.in_ok-plan.ensures.small;
+  laws = c.has_values.ensures;
+  ordered = ordered c.args.mig.now c.in_ok-plan.ensures.placed c.in_ok-plan.ensures.needed;
+  reached = c.in_ok-plan.ensures.reached;
+  complete = c.in_ok-plan.ensures.complete;
+  sound = record { placed = c.in_ok-plan.ensures.full; over = c.in_ok-plan.ensures.sound; allotted = c.in_ok-plan.ensures.allotment };
+}
 
 pub new-requires-clause-few_ports : goal.new-requires-clause-few_ports
 new-requires-clause-few_ports c =
@@ -39,15 +51,7 @@ returns-clause-realizes c =
     let a = c.in_ok-plan.plan.allotment in
     let is : c.in-Ok.program ≡ smart_program g ports a = c.in-Ok.ensures.program ∙ c.in_ok-draft.ensures in
     let P : ProgramView → Type 0 = λ p. Realizes p ports.inputs (λ bits. map (mval g bits) g.outputs) in
-    let s : IsReady g a = record {
-      small = c.in_ok-plan.ensures.small;
-      laws = c.has_values.ensures;
-      ordered = ordered g c.in_ok-plan.ensures.placed c.in_ok-plan.ensures.needed;
-      reached = c.in_ok-plan.ensures.reached;
-      complete = c.in_ok-plan.ensures.complete;
-      sound = record { placed = c.in_ok-plan.ensures.full; over = c.in_ok-plan.ensures.sound; allotted = c.in_ok-plan.ensures.allotment };
-    } in
-    subst P (sym is) (realizes g ports a s c.laws.ensures.exec c.requires.inputs c.requires.outputs)
+    subst P (sym is) (realizes g ports a (ready (goal.at.returns-clause-realizes c).In_ok-draft) c.laws.ensures.exec c.requires.inputs c.requires.outputs)
 
 pub returns-clause-labels : goal.returns-clause-labels
 returns-clause-labels c =
@@ -68,15 +72,7 @@ unreachable-requires c =
     let g = c.args.mig.now in
     let ports = c.args.ports.now in
     let a = c.in_ok-plan.plan.allotment in
-    let s : IsReady g a = record {
-      small = c.in_ok-plan.ensures.small;
-      laws = c.has_values.ensures;
-      ordered = ordered g c.in_ok-plan.ensures.placed c.in_ok-plan.ensures.needed;
-      reached = c.in_ok-plan.ensures.reached;
-      complete = c.in_ok-plan.ensures.complete;
-      sound = record { placed = c.in_ok-plan.ensures.full; over = c.in_ok-plan.ensures.sound; allotted = c.in_ok-plan.ensures.allotment };
-    } in
-    false≢true (c.in-Err.ensures.accepts (subst IsSound (sym c.in_ok-draft.ensures) (sound g ports a s c.requires.inputs)))
+    false≢true (c.in-Err.ensures.accepts (subst IsSound (sym c.in_ok-draft.ensures) (sound g ports a (ready (goal.at.unreachable-requires c).In_ok-draft) c.requires.inputs)))
 
 pub returns-clause-least : goal.returns-clause-least
 returns-clause-least c = least_all
