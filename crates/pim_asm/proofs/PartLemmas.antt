@@ -14,7 +14,8 @@ use Rattle.pim_asm.specs.Assembly.{Body, Stage, Start, Aimed, Inside, begun, don
 use Rattle.pim_asm.specs.Names.{with_name, known_cell}
 use Rattle.pim_asm.specs.Statements.{Statement, Let, Input, Output, Does, target_of, count_of, statement_of}
 use Rattle.pim_asm.specs.Words.{words}
-use Rattle.pim_asm.specs.inner.Parts.{HasFewParts}
+use Rattle.pim_text.specs.Parts.{HasFewParts}
+use Rattle.pim_text.specs.ProgramTexts.{program_parts}
 
 -- the bytes of lines, each with the newline that may end it
 room : List LineView → ℕ
@@ -147,14 +148,14 @@ read_parts n stage (line ∷ others) d e =
     let rest = read_parts (n + 1) h.0 others d h.2 in
     omega arith
 
-few_parts : (bytes : List ℕ) (d : ProgramView) → length bytes ≤ MAX_PROGRAM → read_from 1 Start (lines bytes) ≡ Ok d → HasFewParts d
+few_parts : (bytes : List ℕ) (d : ProgramView) → length bytes ≤ MAX_PROGRAM → read_from 1 Start (lines bytes) ≡ Ok d → HasFewParts (program_parts d)
 unfolding parts stage_parts
 few_parts bytes d small e =
     let all = read_parts 1 Start (lines bytes) d e in
     let fits = room_lines 1 0 [] bytes in
     record { ports = omega arith; instrs = omega arith }
 
-pub has_few_parts : (bytes : List ℕ) (r : Result ProgramView AsmFault) → length bytes ≤ MAX_PROGRAM → r ≡ read_from 1 Start (lines bytes) → IfOk r HasFewParts
+pub has_few_parts : (bytes : List ℕ) (r : Result ProgramView AsmFault) → length bytes ≤ MAX_PROGRAM → r ≡ read_from 1 Start (lines bytes) → IfOk r (λ d. HasFewParts (program_parts d))
 has_few_parts bytes (Ok d) small e = few_parts bytes d small (swap (ok d) (read_from 1 Start (lines bytes)) e)
   where
     swap : (x y : Result ProgramView AsmFault) → x ≡ y → y ≡ x

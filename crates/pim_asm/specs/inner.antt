@@ -2,6 +2,5 @@
 pub mod Bytes
 pub mod Defined
 pub mod Pairs
-pub mod Parts
 pub mod Stages
 pub mod StatementViews

@@ -3,7 +3,8 @@ ghost use Rattle.pim_io.specs.Lines.{lines};
 ghost use Rattle.pim_io.specs.Readings.{Gives};
 ghost use Rattle.pim_asm.specs.Assembly.{read_from, asm_of};
 ghost use Rattle.pim_asm.specs.Assembly as assembly;
-ghost use Rattle.pim_asm.specs.inner.Parts.{HasFewParts};
+ghost use Rattle.pim_text.specs.Parts.{HasFewParts};
+ghost use Rattle.pim_text.specs.ProgramTexts.{program_parts};
 
 use crate::assembler::Assembler;
 use crate::fault::AsmFault;
@@ -26,7 +27,7 @@ pub fn assemble(alloc: Global, bytes: &[u8]) -> Result<Program, AsmFault>
 fn draft(alloc: Global, bytes: &[u8]) -> Result<ProgramDraft, AsmFault>
     requires { length bytes.now ≤ MAX_PROGRAM }
     ensures exact { Gives AsmFault.NoMemory (λ draft. draft) result (read_from 1 assembly.Start (lines bytes.now)) }
-    ensures few { IfOk result HasFewParts }
+    ensures few { IfOk result (λ draft. HasFewParts (program_parts draft)) }
 {
     let mut assembler = Assembler::new(alloc);
     let mut scan = Scan::new(bytes);

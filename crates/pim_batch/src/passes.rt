@@ -1,17 +1,14 @@
-ghost use Rattle.std.specs.Prelude.{◌≡◌, ℕ, ◌+◌, ◌*◌, ◌<◌, ◌≤◌, length, min};
+ghost use Rattle.std.specs.Prelude.{◌≡◌, ◌+◌, ◌*◌, ◌≤◌, length, min};
 ghost use Rattle.pim_io.specs.Outside.{Wrote};
-ghost use Rattle.pim_isa.specs.Results.{load};
-ghost use Rattle.pim_lanes.specs.Banks.{row_of, SameFrame};
-ghost use Rattle.pim_vectors.specs.Tiles.{vector_of};
 ghost use Rattle.pim_batch.specs.inner.Kept.{AreOfPasses, IsRoom};
 ghost use Rattle.pim_batch.specs.inner.ImplyLines.{imply_lines};
 
 use crate::lines::write_results;
 use crate::majorities::run_imply;
-use crate::rows::gather_results;
+use crate::rows::{gather_results, load_lanes};
 use pim_imply::ImplyProgram;
 use pim_io::{Sink, SinkFault, tell_writes};
-use pim_isa::{Fill, Program};
+use pim_isa::Fill;
 use pim_lanes::Bank;
 use pim_vectors::{Stage, Tile};
 
@@ -77,36 +74,11 @@ fn pass<K: Sink>(
     ensures room { IsRoom program.now room.new }
     ensures words { room.new.words ≡ room.old.words }
 {
-    let end = first + room.words;
-    load_lanes(&mut room.bank, program.body(), fill, vectors, first, end);
+    load_lanes(&mut room.bank, program.body(), fill, vectors, first);
     run_imply(&mut room.bank, program);
     gather_results(&mut room.results, program.body(), &room.bank);
     let lanes = left.min(64 * room.words as u32);
     let width = program.outputs().len() + 1;
     let stage = &mut room.stage;
     write_results(&room.results, stage, lanes, width, &mut room.chunk, output)
-}
-
-/// Makes each row of a bank the row at the start for the vector in one of a tile's lanes, from the first lane of a word on to that
-/// of another.
-fn load_lanes(
-    bank: &mut Bank,
-    program: &Program,
-    fill: Fill,
-    vectors: &Tile,
-    first: usize,
-    end: usize,
-)
-    requires cells { bank.old.cells ≡ program.now.cells }
-    requires columns { vectors.now.columns ≡ length program.now.inputs }
-    requires end { end ≡ first + bank.old.words }
-    requires there { end ≤ vectors.now.words }
-    ensures rows { (r : ℕ) → r < 64 * bank.old.words
-        → row_of bank.new r ≡ load program.now fill (vector_of vectors.now (64 * first + r)) }
-    ensures frame { SameFrame bank.old bank.new }
-{
-    bank.fill(fill);
-    for (k, port) in program.inputs().iter().enumerate() {
-        bank.put_column(port.cell, &vectors.column(k as u32)[first..end]);
-    }
 }

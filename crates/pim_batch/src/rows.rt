@@ -1,4 +1,4 @@
-ghost use Rattle.std.specs.Prelude.{◌≡◌, ℕ, ◌*◌, ◌<◌, length, map};
+ghost use Rattle.std.specs.Prelude.{◌≡◌, ℕ, ◌+◌, ◌*◌, ◌<◌, ◌≤◌, length, map};
 ghost use Rattle.pim_isa.specs.Results.{load};
 ghost use Rattle.pim_isa.specs.Steps.{bit};
 ghost use Rattle.pim_lanes.specs.Banks.{row_of, SameFrame};
@@ -16,9 +16,28 @@ pub fn load_vectors(bank: &mut Bank, program: &Program, fill: Fill, vectors: &Ti
     ensures rows { (r : ℕ) → r < 64 * bank.old.words → row_of bank.new r ≡ load program.now fill (vector_of vectors.now r) }
     ensures frame { SameFrame bank.old bank.new }
 {
+    load_lanes(bank, program, fill, vectors, 0);
+}
+
+/// The same for the vector in one of a tile's lanes, from the first lane of a word on.
+pub(crate) fn load_lanes(
+    bank: &mut Bank,
+    program: &Program,
+    fill: Fill,
+    vectors: &Tile,
+    first: usize,
+)
+    requires cells { bank.old.cells ≡ program.now.cells }
+    requires columns { vectors.now.columns ≡ length program.now.inputs }
+    requires there { first + bank.old.words ≤ vectors.now.words }
+    ensures rows { (r : ℕ) → r < 64 * bank.old.words
+        → row_of bank.new r ≡ load program.now fill (vector_of vectors.now (64 * first + r)) }
+    ensures frame { SameFrame bank.old bank.new }
+{
     bank.fill(fill);
+    let words = bank.words();
     for (k, port) in program.inputs().iter().enumerate() {
-        bank.put_column(port.cell, vectors.column(k as u32));
+        bank.put_column(port.cell, &vectors.column(k as u32)[first..][..words]);
     }
 }
 

@@ -17,12 +17,13 @@ use Rattle.pim_isa.specs.declared.instr.Operand.TheVariants.{Zero, One, Cell}
 use Rattle.pim_isa.specs.declared.instr.Instr.{Instr}
 use Rattle.pim_isa.specs.declared.instr.Instr.TheVariants.{Init, Nor, Rm3}
 use Rattle.pim_isa.specs.Programs.{ProgramView}
+use Rattle.pim_text.specs.Parts.{HasFewParts}
+use Rattle.pim_text.specs.ProgramTexts.{program_parts}
 use Rattle.pim_text.specs.Spelled.{HasPortLine}
 use Rattle.pim_file.specs.Items.{Cursor, wrong_before, allowed, byte_at, shown_at, number_at, length_at, many, counted}
 use Rattle.pim_file.specs.BinaryReading.{target_of_byte, target_at, port_at, init_at, nor1_at, nor2_at, nor3_at, nor4_at, operand_of_number, operand_number_at, rm3_at, instr_behind, instr_at, draft_at, closed_at, tag, is_binary, draft2_of}
 use Rattle.pim_file.specs.Binary.{target_byte, each_bin, counted_bin, numbers_bin, port_bin, operand_number, nor_bin, instr_bin, body_bin, bin}
 use Rattle.pim_file.specs.BinarySpelled.{HasBytes, HasBinary}
-use Rattle.pim_file.specs.inner.Kept.{HasFewParts}
 use Rattle.pim_file.proofs.CodeLemmas.{code_is_some}
 use Rattle.pim_file.proofs.ItemLemmas.{bind_ok, ok_is, IsSpelled, IsRead, byte_is, number_spelled, number_read, counted_spelled, counted_read, label_spelled, label_read, is_length, length_spelled, length_read}
 
@@ -343,7 +344,7 @@ many_instrs (i ∷ instrs) =
     let whole = length-append (instr_bin i) (each_bin instr_bin instrs) in
     omega arith
 
-pub small_form : (d : ProgramView) → HasBinary d → length (bin d) ≤ MAX_PROGRAM → HasFewParts d
+pub small_form : (d : ProgramView) → HasBinary d → length (bin d) ≤ MAX_PROGRAM → HasFewParts (program_parts d)
 small_form d h most =
     let i = counted_bin port_bin d.inputs in
     let o = counted_bin port_bin d.outputs in

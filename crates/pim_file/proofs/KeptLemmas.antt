@@ -11,7 +11,9 @@ use Rattle.pim_isa.specs.declared.draft.TheConstants.{MAX_CELLS}
 use Rattle.pim_isa.specs.Programs.{ProgramView}
 use Rattle.pim_file.specs.declared.fault.FileFault.{FileFault}
 use Rattle.pim_file.specs.declared.fault.FileFault.TheVariants as faults
-use Rattle.pim_file.specs.inner.Kept.{begun, with_input, with_output, with_instr, within_limit, HasFewParts}
+use Rattle.pim_file.specs.inner.Kept.{begun, with_input, with_output, with_instr, within_limit}
+use Rattle.pim_text.specs.Parts.{HasFewParts}
+use Rattle.pim_text.specs.ProgramTexts.{program_parts}
 use Rattle.pim_file.specs.ProgramFile.{sized, validated}
 use Rattle.pim_file.specs.Items.{Cursor, number_at, counted}
 use Rattle.pim_file.specs.BinaryReading.{target_at, port_at, instr_at, draft_at, closed_at, is_binary, draft2_of, parse2_of}
@@ -103,7 +105,7 @@ kept_draft_is bytes d e =
     let b = bind_ok (draft2_of bytes) sized d (sym (draft2_kept bytes) ∙ e) in
     b.1 ∙ ap (λ (x : ProgramView). let r : Result ProgramView FileFault = Ok x in r) (size_cases (ltb MAX_CELLS b.0.cells) b.0 d b.2)
 
-pub kept_is_small : (bytes : List ℕ) (d : ProgramView) → is_binary bytes ≡ true → length bytes ≤ MAX_PROGRAM → draft_within_limit bytes ≡ Ok d → HasFewParts d
+pub kept_is_small : (bytes : List ℕ) (d : ProgramView) → is_binary bytes ≡ true → length bytes ≤ MAX_PROGRAM → draft_within_limit bytes ≡ Ok d → HasFewParts (program_parts d)
 kept_is_small bytes d tagged short e =
     let form = draft2_is bytes d tagged (kept_draft_is bytes d e) in
     small_form d form.1 (subst (λ (t : List ℕ). length t ≤ MAX_PROGRAM) form.0 short)

@@ -3,7 +3,8 @@ ghost use Rattle.pim_io.specs.Lines.{lines};
 ghost use Rattle.pim_isa.specs.Programs.{ProgramView};
 ghost use Rattle.pim_isa.specs.Sound.{IsProgram};
 ghost use Rattle.pim_file.specs.Spelled.{HasText};
-ghost use Rattle.pim_file.specs.inner.Kept.{HasFewParts};
+ghost use Rattle.pim_text.specs.Parts.{HasFewParts};
+ghost use Rattle.pim_text.specs.ProgramTexts.{program_parts};
 ghost use Rattle.pim_io.specs.Readings.{Gives};
 ghost use Rattle.pim_file.specs.Text.{text as text_of};
 ghost use Rattle.pim_file.specs.Right.{first_wrong, is_cut_off, wrong_line, is_truncated};
@@ -85,7 +86,7 @@ fn validated(alloc: Global, bytes: &[u8]) -> Result<Program, FileFault>
 fn draft(alloc: Global, bytes: &[u8]) -> Result<ProgramDraft, FileFault>
     requires { length bytes.now ≤ MAX_PROGRAM }
     ensures exact { Gives FileFault.NoMemory (λ draft. draft) result (sized_draft_of bytes.now) }
-    ensures few { IfOk result HasFewParts }
+    ensures few { IfOk result (λ draft. HasFewParts (program_parts draft)) }
 {
     Ok(read_draft::<ProgramDraft>(alloc, bytes)?)
 }

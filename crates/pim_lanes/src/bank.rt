@@ -56,6 +56,13 @@ impl Bank {
         })
     }
 
+    /// How many words a column has.
+    pub fn words(&self) -> usize
+        ensures { result ≡ self.now.words }
+    {
+        self.words
+    }
+
     /// Fills all cells of all rows. Linear in the cells and words.
     pub fn fill(&mut self, fill: Fill)
         ensures rows { (r : ℕ) → IsRow self.old r → row_of self.new r ≡ replicate self.old.cells (fill_bit fill) }

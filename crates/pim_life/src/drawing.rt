@@ -54,17 +54,18 @@ fn draw_all(
     ensures roots { OnOk result (graph.new.roots ≡ graph.old.roots) }
     ensures holds { OnOk result (Holds graph.new.kids held.new.items) }
 {
+    let mut children = Vec::new(alloc);
     for instr in instrs {
-        step(alloc, graph, held, instr)?;
+        step(graph, held, &mut children, instr)?;
     }
     Ok(())
 }
 
-/// The gate of one instruction, if it is a NOR.
+/// The gate of one instruction, if it is a NOR. What it reads is listed in `children`, which is room for that alone.
 fn step(
-    alloc: Global,
     graph: &mut Graph,
     held: &mut Vec<Option<u32>>,
+    children: &mut Vec<u32>,
     instr: &Instr,
 ) -> Result<(), NoMemory>
     requires { Holds graph.old.kids held.old.items }
@@ -76,8 +77,8 @@ fn step(
     match instr {
         Instr::Init(cells) => empty(held, cells.list()),
         Instr::Nor { t, ins } => {
-            let children = operand_gates(alloc, held, *ins)?;
-            let gate = add_gate(graph, &children)?;
+            list_operands(children, held, *ins)?;
+            let gate = add_gate(graph, children)?;
             put(held, *t, Some(gate));
         }
         Instr::Rm3 { z, .. } => empty(held, &[*z]),
@@ -123,29 +124,29 @@ fn empty(held: &mut Vec<Option<u32>>, cells: &[u32])
     }
 }
 
-/// The gates that the operands' cells hold, each once.
-fn operand_gates(alloc: Global, held: &[Option<u32>], ins: Ins) -> Result<Vec<u32>, NoMemory>
-    ensures gates { IfOk result (λ gates. gates.items ≡ gates_held held.now [] (operands ins)) }
-    ensures few { IfOk result (λ gates. length gates.items ≤ 4) }
+/// Makes a list the gates that the operands' cells hold, each once.
+fn list_operands(gates: &mut Vec<u32>, held: &[Option<u32>], ins: Ins) -> Result<(), NoMemory>
+    ensures gates { OnOk result (gates.new.items ≡ gates_held held.now [] (operands ins)) }
+    ensures few { OnOk result (length gates.new.items ≤ 4) }
 {
     match ins {
-        Ins::One(a) => gates_of(alloc, held, &[a]),
-        Ins::Two(a, b) => gates_of(alloc, held, &[a, b]),
-        Ins::Three(a, b, c) => gates_of(alloc, held, &[a, b, c]),
-        Ins::Four(a, b, c, d) => gates_of(alloc, held, &[a, b, c, d]),
+        Ins::One(a) => list_gates(gates, held, &[a]),
+        Ins::Two(a, b) => list_gates(gates, held, &[a, b]),
+        Ins::Three(a, b, c) => list_gates(gates, held, &[a, b, c]),
+        Ins::Four(a, b, c, d) => list_gates(gates, held, &[a, b, c, d]),
     }
 }
 
-/// The gates that the cells hold, each once.
-fn gates_of(alloc: Global, held: &[Option<u32>], cells: &[u32]) -> Result<Vec<u32>, NoMemory>
-    ensures gates { IfOk result (λ gates. gates.items ≡ gates_held held.now [] cells.now) }
-    ensures few { IfOk result (λ gates. length gates.items ≤ length cells.now) }
+/// Makes a list the gates that the cells hold, each once.
+fn list_gates(gates: &mut Vec<u32>, held: &[Option<u32>], cells: &[u32]) -> Result<(), NoMemory>
+    ensures gates { OnOk result (gates.new.items ≡ gates_held held.now [] cells.now) }
+    ensures few { OnOk result (length gates.new.items ≤ length cells.now) }
 {
-    let mut gates = Vec::new(alloc);
+    gates.clear();
     for cell in cells {
-        add(&mut gates, gate_of(held, *cell))?;
+        add(gates, gate_of(held, *cell))?;
     }
-    Ok(gates)
+    Ok(())
 }
 
 /// Appends a gate, if it isn't there. It looks through the list, so it is for the few gates that a gate reads.

@@ -20,6 +20,7 @@ use Rattle.clap.specs.declared.builder.value_parser.ValueParser.TheVariants as v
 use Rattle.clap.specs.declared.parser.matches.ArgMatches.{ArgMatches}
 use Rattle.clap.proofs.CallerLemmas.{added_plain}
 use Rattle.clap.proofs.CallerReads.{required_reads}
+use Rattle.pim_words.specs.declared.limits.TheConstants.{MAX_CELLS}
 use Rattle.pim_words.specs.Lines.{cells_rule, compile_by, compile_line, one_of_names, option_of, required, with_default_text}
 use Rattle.pim_words.specs.inner.Matches.{HasCells}
 use Rattle.pim_words.specs.inner.Options.{HasRule}
@@ -75,8 +76,8 @@ cells_read c0 c1 c2 c3 a0 a1 a2 targets levels add0 add1 add2 args groups global
     (subst (λ (t : Text). bytes_eq (slice_index_or (args_of c3) j e).id.now t ≡ true) name same)))
     (λ e. let bad : codes "cells" ≡ [] = sym name ∙ e in cc)
     (λ auto. not_auto (subst (λ (t : Text). (t ≡ codes "help") ⊎ (t ≡ codes "version")) name auto))
-    (vp.Signed (pos 0) (pos 1048576)) (ap (λ (x : Arg). x.value_parser) at ∙ add1.rules.parser _ (ap (λ (r : Rule). r.parser) has1.reads)) in
-    has_number (codes "cells") 0 1048576 m read.0 read.2 (subst (λ (t : Text). one_text (found_of m) t ≡ Some (without_minus read.0)) name read.1)
+    (vp.Signed (pos 0) (pos MAX_CELLS)) (ap (λ (x : Arg). x.value_parser) at ∙ add1.rules.parser _ (ap (λ (r : Rule). r.parser) has1.reads)) in
+    has_number (codes "cells") 0 MAX_CELLS m read.0 read.2 (subst (λ (t : Text). one_text (found_of m) t ≡ Some (without_minus read.0)) name read.1)
   where
     not_auto : (codes "cells" ≡ codes "help") ⊎ (codes "cells" ≡ codes "version") → ⊥
     not_auto (inl e) = cc

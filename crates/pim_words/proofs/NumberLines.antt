@@ -13,6 +13,7 @@ use Rattle.clap.specs.declared.builder.command.Command.TheViews.{out-Command}
 use Rattle.clap.specs.declared.builder.value_parser.ValueParser.TheVariants as vp
 use Rattle.clap.specs.declared.parser.matches.ArgMatches.{ArgMatches}
 use Rattle.clap.proofs.CallerReads.{one_required_read}
+use Rattle.pim_words.specs.declared.limits.TheConstants.{MAX_CELLS}
 use Rattle.pim_words.specs.Lines.{bits_rule, cells_rule}
 use Rattle.pim_words.specs.inner.Matches.{HasBits, HasCells, HasNumber}
 use Rattle.pim_words.specs.inner.Options.{HasRule}
@@ -43,7 +44,7 @@ cells_own (inr e) = cc
 pub cells_given : (start line : Command) (a : Arg) → AddsArg start a line → args_of start ≡ [] → groups_of start ≡ [] → (out-Command start).has_globals ≡ false
     → (out-Command start).subcommand_negates_reqs ≡ false → HasRule cells_rule a → (m : ArgMatches) → IsParsedFrom line m → HasCells m
 cells_given start line a added args groups globals negates has =
-    number_given cells_rule 0 1048576 start line a added args groups globals negates has refl refl refl cells_named cells_own
+    number_given cells_rule 0 MAX_CELLS start line a added args groups globals negates has refl refl refl cells_named cells_own
 
 bits_named : codes "bits" ≡ [] → ⊥
 bits_named e = cc

@@ -18,6 +18,7 @@ use Rattle.clap.specs.declared.builder.value_parser.ValueParser.TheVariants as v
 use Rattle.clap.proofs.ValueTestLemmas.{Accepts-accepts}
 use Rattle.clap.proofs.OnLiterals.{clap_on_literals}
 use Rattle.pim_words.proofs.Numbers.{no_plus}
+use Rattle.pim_words.specs.declared.limits.TheConstants.{MAX_CELLS}
 use Rattle.pim_words.specs.Lines.{bench_line, cells_line, compile_line}
 use Rattle.pim_words.specs.Plain.{IsPlain, IsPlainExplain, IsPlainFill, IsTaken, cells_words, compile_words, convert_words, file_words, fill_words, level_words}
 use Rattle.pim_words.specs.Reading.{cells_of, command_said, is_usage, level_of, number_of, refuses, target_of}
@@ -39,7 +40,7 @@ use Rattle.pim_words.specs.declared.command.TargetWord.TheVariants.{Magic, Plim}
 abbrev number_kinds : ℕ → ℕ → Text → Kinds
 number_kinds low high text = value_kinds false (vp.Signed (pos low) (pos high)) text
 
-module _ (low high : ℕ) (few : high ≤ 1048576) where
+module _ (low high : ℕ) (few : high ≤ MAX_CELLS) where
   signed_from : (text : Text) → IsNumeral 10 text → low ≤ digits_value 10 text → digits_value 10 text ≤ high → IsSignedIn (pos low) (pos high) text
   signed_from [] numeral large small = absurd (omega (arith, numeral.0))
   signed_from (d ∷ ds) numeral large small =
@@ -73,7 +74,7 @@ module _ (low high : ℕ) (few : high ≤ 1048576) where
           let is : 48 + (d - 48) ≡ d = omega (arith, range) in
           subst (λ x. number_kinds low high (x ∷ ds) ≡ [] → P (x ∷ ds)) is (digit (d - 48) (omega (arith, range)) ds) (number_taken (d ∷ ds) numeral large small)
 
-number_same : (n : ℕ) → n ≤ 1048576 → number_of (decimal n) ≡ n
+number_same : (n : ℕ) → n ≤ MAX_CELLS → number_of (decimal n) ≡ n
 number_same n few =
     let number = decimal_is_IsNumeral n (omega (arith, few)) in
     ap (digits_value 10) (no_plus (decimal n) number.0) ∙ number.1
@@ -112,7 +113,7 @@ TakesAll target text = Takes target Zero (compile_words target text) text × Tak
     × Takes target One (compile_words target text ++ level_words One) text × Takes target Two (compile_words target text ++ level_words Two) text
 
 abbrev TakesAt : TargetWord → ℕ → Type 0
-TakesAt target d = (ds : Text) → number_kinds 0 1048576 (d ∷ ds) ≡ [] → TakesAll target (d ∷ ds)
+TakesAt target d = (ds : Text) → number_kinds 0 MAX_CELLS (d ∷ ds) ≡ [] → TakesAll target (d ∷ ds)
 
 compile_digit : (target : TargetWord) (k : ℕ) → k ≤ 9 → TakesAt target (48 + k)
 unfolding clap_on_literals
@@ -145,7 +146,7 @@ with_level target One text all = all.2
 with_level target Two text all = all.3
 
 -- words that begin with `compile`, as the first of `compile_words`, come to what the line reads of them
-compile_said : (target : TargetWord) (level : LevelWord) (n : ℕ) (rest : List Text) → n ≤ 1048576
+compile_said : (target : TargetWord) (level : LevelWord) (n : ℕ) (rest : List Text) → n ≤ MAX_CELLS
     → Takes target level (compile_words target (decimal n) ++ rest) (decimal n) → IsTaken (commands.Compile target level n) (compile_words target (decimal n) ++ rest)
 compile_said target level n rest few takes = (
   ap (λ k. not (is_empty k)) takes.0,
@@ -156,7 +157,7 @@ compile_said target level n rest few takes = (
 
 compile_taken : (target : TargetWord) (level : LevelWord) (n : ℕ) (words : List Text) → IsPlain (commands.Compile target level n) words → IsTaken (commands.Compile target level n) words
 compile_taken target level n words plain =
-    let all = by_number 0 1048576 (omega arith) (TakesAll target) (compile_digit target) n (omega arith) plain.0 in
+    let all = by_number 0 MAX_CELLS (omega arith) (TakesAll target) (compile_digit target) n (omega arith) plain.0 in
     elim plain.1 [
       | inl way ↦ subst (λ l. IsTaken (commands.Compile target l n) words) (sym way.0)
           (subst (IsTaken (commands.Compile target Zero n)) (sym way.1) (compile_said target Zero n [] plain.0 all.0))
@@ -168,9 +169,9 @@ compile_taken target level n words plain =
 abbrev CellsTaken : Text → Text → Type 0
 CellsTaken name text = (fault_of (cells_line name) (name ∷ cells_words text) ≡ []) × (one_of (codes "cells") (matches_of (cells_line name) (name ∷ cells_words text)) ≡ Some text)
 
-cells_digit : (name : Text) (k : ℕ) → k ≤ 9 → (ds : Text) → number_kinds 0 1048576 ((48 + k) ∷ ds) ≡ [] → CellsTaken name ((48 + k) ∷ ds)
+cells_digit : (name : Text) (k : ℕ) → k ≤ 9 → (ds : Text) → number_kinds 0 MAX_CELLS ((48 + k) ∷ ds) ≡ [] → CellsTaken name ((48 + k) ∷ ds)
 unfolding clap_on_literals
-cells_digit name = by_digit (λ d. (ds : Text) → number_kinds 0 1048576 (d ∷ ds) ≡ [] → CellsTaken name (d ∷ ds))
+cells_digit name = by_digit (λ d. (ds : Text) → number_kinds 0 MAX_CELLS (d ∷ ds) ≡ [] → CellsTaken name (d ∷ ds))
     (λ ds ok. (ap at_end ok, refl))
     (λ ds ok. (ap at_end ok, refl))
     (λ ds ok. (ap at_end ok, refl))
@@ -184,17 +185,17 @@ cells_digit name = by_digit (λ d. (ds : Text) → number_kinds 0 1048576 (d ∷
 
 -- so words whose command line is this one come to their command
 cells_taken : (name : Text) (command : ℕ → Command) (n : ℕ) (words : List Text) → is_usage words ≡ refuses (name ∷ cells_words (decimal n)) (cells_line name)
-    → command_said words ≡ option_map command (cells_of (matches_of (cells_line name) (name ∷ cells_words (decimal n)))) → n ≤ 1048576 → IsTaken (command n) words
+    → command_said words ≡ option_map command (cells_of (matches_of (cells_line name) (name ∷ cells_words (decimal n)))) → n ≤ MAX_CELLS → IsTaken (command n) words
 cells_taken name command n words usage said few =
-    let takes = by_number 0 1048576 (omega arith) (CellsTaken name) (cells_digit name) n (omega arith) few in (
+    let takes = by_number 0 MAX_CELLS (omega arith) (CellsTaken name) (cells_digit name) n (omega arith) few in (
       usage ∙ ap (λ k. not (is_empty k)) takes.0,
       said ∙ ap (λ o. option_map command (option_map number_of o)) takes.1 ∙ ap (λ m. Some (command m)) (number_same n few),
     )
 
-imply_taken : (n : ℕ) → n ≤ 1048576 → IsTaken (commands.Imply n) (codes "imply" ∷ cells_words (decimal n))
+imply_taken : (n : ℕ) → n ≤ MAX_CELLS → IsTaken (commands.Imply n) (codes "imply" ∷ cells_words (decimal n))
 imply_taken n few = cells_taken (codes "imply") commands.Imply n (codes "imply" ∷ cells_words (decimal n)) refl refl few
 
-share_taken : (n : ℕ) (file : Text) → n ≤ 1048576 → IsTaken (commands.Share n) (file_words (codes "share") file ++ cells_words (decimal n))
+share_taken : (n : ℕ) (file : Text) → n ≤ MAX_CELLS → IsTaken (commands.Share n) (file_words (codes "share") file ++ cells_words (decimal n))
 share_taken n file few = cells_taken (codes "share") commands.Share n (file_words (codes "share") file ++ cells_words (decimal n)) refl refl few
 
 -- ---- `bench`

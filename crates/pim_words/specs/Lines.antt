@@ -5,6 +5,7 @@ use Rattle.clap.specs.Words.{App, Rule, Text, new_app, new_rule, with_rule}
 use Rattle.clap.specs.declared.builder.action.ArgAction.TheVariants.{Set, SetTrue}
 use Rattle.clap.specs.declared.builder.value_parser.ValueParser.{ValueParser}
 use Rattle.clap.specs.declared.builder.value_parser.ValueParser.TheVariants as vp
+use Rattle.pim_words.specs.declared.limits.TheConstants.{MAX_CELLS}
 
 -- a reference to x; where it points plays no part in what is read
 abbrev pub lent : {X : Type 0} → X → Bor X
@@ -31,9 +32,9 @@ required a = record a { required = true }
 abbrev pub with_default_text : Text → Rule → Rule
 with_default_text text a = record a { defaults = text ∷ [] }
 
--- `--cells N`, with N from 0 to 1,048,576, the cells of a whole row
+-- `--cells N`, with N from 0 to the cells of a whole row
 abbrev pub cells_rule : Rule
-cells_rule = required (option_of (codes "cells") (vp.Signed (pos 0) (pos 1048576)))
+cells_rule = required (option_of (codes "cells") (vp.Signed (pos 0) (pos MAX_CELLS)))
 
 -- `compile`, by what its `--target` and its `--level` take
 abbrev pub compile_by : ValueParser → ValueParser → App

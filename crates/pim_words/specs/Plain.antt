@@ -14,6 +14,7 @@ use Rattle.pim_words.specs.declared.command.LevelWord.{LevelWord}
 use Rattle.pim_words.specs.declared.command.LevelWord.TheVariants.{One, Two, Zero}
 use Rattle.pim_words.specs.declared.command.TargetWord.{TargetWord}
 use Rattle.pim_words.specs.declared.command.TargetWord.TheVariants.{Magic, Plim}
+use Rattle.pim_words.specs.declared.limits.TheConstants.{MAX_CELLS}
 
 -- the value of `--target` for this machine
 abbrev pub target_text : TargetWord → Text
@@ -85,7 +86,7 @@ IsPlainExplain tree words = (file : Text) × (words
 -- their order, numbers in digits with no leading zero; an option may be left out where its value is
 -- the default, which is 0 for the level and zeros for the fill
 abbrev pub IsPlain : Command → List Text → Type 0
-IsPlain (commands.Compile target level cells) words = (cells ≤ 1048576)
+IsPlain (commands.Compile target level cells) words = (cells ≤ MAX_CELLS)
     × (((level ≡ Zero) × (words ≡ compile_words target (decimal cells)))
     ⊎ (words ≡ compile_words target (decimal cells) ++ level_words level))
 IsPlain (commands.Run fill) words = IsPlainFill (codes "run") fill words
@@ -95,10 +96,10 @@ IsPlain commands.Prove words = IsPlainFile (codes "prove") words
 IsPlain commands.Asm words = words ≡ codes "asm" ∷ []
 IsPlain (commands.Debug fill) words = IsPlainFill (codes "debug") fill words
 IsPlain (commands.Convert form) words = words ≡ convert_words form
-IsPlain (commands.Imply cells) words = (cells ≤ 1048576)
+IsPlain (commands.Imply cells) words = (cells ≤ MAX_CELLS)
     × (words ≡ codes "imply" ∷ cells_words (decimal cells))
 IsPlain (commands.Implyrun fill) words = IsPlainFill (codes "implyrun") fill words
-IsPlain (commands.Share cells) words = (cells ≤ 1048576) × IsPlainShare cells words
+IsPlain (commands.Share cells) words = (cells ≤ MAX_CELLS) × IsPlainShare cells words
 IsPlain (commands.Bench bits) words = (1 ≤ bits) × (bits ≤ 64)
     × (words ≡ codes "bench" ∷ decimal bits ∷ [])
 

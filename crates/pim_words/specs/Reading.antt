@@ -21,6 +21,7 @@ use Rattle.pim_words.specs.declared.command.TargetWord.{TargetWord}
 use Rattle.pim_words.specs.declared.command.TargetWord.TheVariants.{Magic, Plim}
 use Rattle.pim_words.specs.declared.command.LevelWord.{LevelWord}
 use Rattle.pim_words.specs.declared.command.LevelWord.TheVariants.{One, Two, Zero}
+use Rattle.pim_words.specs.declared.limits.TheConstants.{MAX_CELLS}
 
 -- the command line refuses the words, of which the first is the command's name
 abbrev pub refuses : List Text → App → Bool
@@ -158,8 +159,8 @@ names_command (name ∷ rest) = is_some (cli name)
 
 -- the number of cells is at most that of a whole row, and the numbers of `bench` have 1 to 64 bits
 abbrev pub IsWithin : Command → Type 0
-IsWithin (commands.Compile target level cells) = cells ≤ 1048576
-IsWithin (commands.Imply cells) = cells ≤ 1048576
-IsWithin (commands.Share cells) = cells ≤ 1048576
+IsWithin (commands.Compile target level cells) = cells ≤ MAX_CELLS
+IsWithin (commands.Imply cells) = cells ≤ MAX_CELLS
+IsWithin (commands.Share cells) = cells ≤ MAX_CELLS
 IsWithin (commands.Bench bits) = (1 ≤ bits) × (bits ≤ 64)
 IsWithin _ = Unit {0}

@@ -5,6 +5,7 @@ ghost use Rattle.clap.specs.Words.{IsParsedFrom, app_of, found_of, matches_of, o
 ghost use Rattle.clap.specs.declared.parser.matches.ArgMatches.{ArgMatches};
 ghost use Rattle.pim_words.specs.Lines.{cells_line};
 ghost use Rattle.pim_words.specs.Reading.{ReadsAlike, cells_of, number_of, refuses, with_cells};
+ghost use Rattle.pim_words.specs.declared.limits.TheConstants.{MAX_CELLS};
 ghost use Rattle.pim_words.specs.declared.command.Command.TheVariants as commands;
 ghost use Rattle.pim_words.specs.inner.Answer.{IsReading};
 ghost use Rattle.pim_words.specs.inner.Matches.{HasCells};
@@ -31,7 +32,7 @@ fn read_cells(alloc: Global, name: &str, words: &[String]) -> Result<u32, WordsF
         (refuses (map string_bytes words.now) (cells_line name.now) ≡ false) }
     ensures value { IfOk result (λ cells.
         cells_of (matches_of (cells_line name.now) (map string_bytes words.now)) ≡ Some cells) }
-    ensures within { IfOk result (λ cells. cells ≤ 1048576) }
+    ensures within { IfOk result (λ cells. cells ≤ MAX_CELLS) }
 {
     let line = cells_line(alloc, name)?;
     let matches = line.try_get_matches_from(words)?;
@@ -43,7 +44,7 @@ pub fn cells_of(matches: &ArgMatches) -> u32
     requires { HasCells matches.now }
     ensures said { option_map number_of (one_text (found_of matches.now) (codes "cells"))
         ≡ Some result }
-    ensures within { result ≤ 1048576 }
+    ensures within { result ≤ MAX_CELLS }
 {
     match matches.get_one::<u32>("cells") {
         Some(cells) => cells,

@@ -48,7 +48,7 @@ pub enum Command {
         target: TargetWord,
         /// The value of `--level`.
         level: LevelWord,
-        /// The value of `--cells`: how many cells the program may use, at most 1,048,576.
+        /// The value of `--cells`: how many cells the program may use, at most `MAX_CELLS`.
         cells: u32,
     },
     /// `run`: a program is executed on vectors.
@@ -79,7 +79,7 @@ pub enum Command {
     },
     /// `imply`: a netlist becomes a program for the machine of `false` and `imp`.
     Imply {
-        /// The value of `--cells`: how many cells the program may use, at most 1,048,576.
+        /// The value of `--cells`: how many cells the program may use, at most `MAX_CELLS`.
         cells: u32,
     },
     /// `implyrun`: a program of `false` and `imp` is executed on vectors.
@@ -89,7 +89,7 @@ pub enum Command {
     },
     /// `share`: the programs of a file are laid into one row, as the turns of the input say.
     Share {
-        /// The value of `--cells`: how many cells the program may use, at most 1,048,576.
+        /// The value of `--cells`: how many cells the program may use, at most `MAX_CELLS`.
         cells: u32,
     },
     /// `bench`: programs of an adder are executed on rows that are drawn by chance.

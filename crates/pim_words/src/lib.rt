@@ -11,6 +11,7 @@ mod converting;
 mod explaining;
 mod fault;
 mod filling;
+mod limits;
 mod measuring;
 mod no_options;
 mod options;
@@ -19,5 +20,6 @@ mod reading;
 
 pub use command::{Command, FillWord, FormWord, LevelWord, TargetWord};
 pub use fault::WordsFault;
+pub use limits::MAX_CELLS;
 pub use program::program_word;
 pub use reading::read;

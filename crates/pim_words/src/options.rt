@@ -3,6 +3,7 @@ ghost use Rattle.clap.specs.declared.builder.value_parser.ValueParser.TheVariant
 ghost use Rattle.pim_words.specs.Lines.{argument_of, cells_rule, option_of};
 ghost use Rattle.pim_words.specs.inner.Options.{HasRule};
 
+use crate::limits::MAX_CELLS;
 use clap::builder::ValueParser;
 use clap::{Arg, ArgAction};
 use std::alloc::Global;
@@ -34,6 +35,6 @@ pub fn choice_of<'a>(alloc: Global, name: &'a str, choices: &'a [&'a str]) -> Ar
 pub fn cells_option<'a>(alloc: Global) -> Arg<'a>
     ensures { HasRule cells_rule result }
 {
-    let number = clap::value_parser!(u32).range(0..=1_048_576);
+    let number = clap::value_parser!(u32).range(0..=i64::from(MAX_CELLS));
     option_of(alloc, "cells", number).required(true)
 }

@@ -1,7 +1,7 @@
 -- Inner: the draft that is kept while a binary file is read.
-use Rattle.std.specs.Prelude.{nat_lt, if◌then◌else◌, ◌+◌, ◌≤◌, ℕ, [], ◌∷◌, ◌++◌, length, Option, Some, None, option_map}
+use Rattle.std.specs.Prelude.{nat_lt, if◌then◌else◌, ℕ, [], ◌∷◌, ◌++◌, Option, Some, None, option_map}
 use Rattle.pim_isa.specs.Programs.{ProgramView}
-use Rattle.pim_isa.specs.declared.draft.TheConstants.{MAX_CELLS, MAX_PORTS, MAX_INSTRS}
+use Rattle.pim_isa.specs.declared.draft.TheConstants.{MAX_CELLS}
 use Rattle.pim_isa.specs.declared.instr.Instr.{Instr}
 use Rattle.pim_isa.specs.declared.port.Port.{Port}
 use Rattle.pim_isa.specs.declared.target.Target.{Target}
@@ -25,8 +25,3 @@ with_instr draft instr = option_map {T = ProgramView} (λ d. record d { instrs =
 -- a draft of at most as many cells as a program may have
 abbrev pub within_limit : ProgramView → Option ProgramView
 within_limit draft = if nat_lt MAX_CELLS draft.cells then None else Some draft
-
--- a draft of no more ports and instructions than a program may have
-pub record HasFewParts (draft : ProgramView) : Type 0 where
-  pub ports : length draft.inputs + length draft.outputs ≤ MAX_PORTS
-  pub instrs : length draft.instrs ≤ MAX_INSTRS

@@ -3,6 +3,7 @@ use Rattle.std.specs.Prelude.{◌≡◌, ◌≤◌, ℕ, Some, codes}
 use Rattle.std.specs.Str.Parse.{IsNumeral, digits_value, without_leading_plus}
 use Rattle.clap.specs.Words.{found_of, one_text, Text}
 use Rattle.clap.specs.declared.parser.matches.ArgMatches.{ArgMatches}
+use Rattle.pim_words.specs.declared.limits.TheConstants.{MAX_CELLS}
 
 -- the argument of this name has a number, from `low` to `high`
 pub record HasNumber (name : Text) (low high : ℕ) (m : ArgMatches) : Type 0 where
@@ -12,9 +13,9 @@ pub record HasNumber (name : Text) (low high : ℕ) (m : ArgMatches) : Type 0 wh
   pub least : low ≤ digits_value 10 (without_leading_plus text)
   pub most : digits_value 10 (without_leading_plus text) ≤ high
 
--- there is a number after `--cells`, at most 1,048,576
+-- there is a number after `--cells`, at most those of a whole row
 abbrev pub HasCells : ArgMatches → Type 0
-HasCells = HasNumber (codes "cells") 0 1048576
+HasCells = HasNumber (codes "cells") 0 MAX_CELLS
 
 -- there is a number of bits, from 1 to 64
 abbrev pub HasBits : ArgMatches → Type 0

@@ -8,7 +8,7 @@ pub add_gate-requires-clause-there : goal.add_gate-requires-clause-there
 add_gate-requires-clause-there c =
     let cells = operands c.in-Nor.ins in
     gates_within c.args.graph.now.kids c.args.held.now.items cells c.deref-in-Nor.result.now c.requires
-    (c.deref-in-Nor.ensures.value ∙ c.in_ok-children-in-Nor.ensures.gates ∙ ap (λ (h : List (Option ℕ)). gates_held h [] cells) c.deref.ensures.value)
+    (c.deref-in-Nor.ensures.value ∙ c.in_ok-list_operands-in-Nor.ensures.gates ∙ ap (λ (h : List (Option ℕ)). gates_held h [] cells) c.deref.ensures.value)
 
 pub returns-in-Init-clause-holds : goal.returns-in-Init-clause-holds
 returns-in-Init-clause-holds c = λ d gate is.

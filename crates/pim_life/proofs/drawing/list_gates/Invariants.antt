@@ -1,6 +1,6 @@
 use Rattle.std.proofs.Common.{◌≡◌, ◌≤◌, [], drop, length}
 use Rattle.pim_life.specs.inner.Drawing.{gates_held}
-use Rattle.pim_life.proofs.drawing.gates_of.Given as goal
+use Rattle.pim_life.proofs.drawing.list_gates.Given as goal
 
 -- the gates so far, with those of the cells that are left, are all
 abbrev pub invariant-loop-cell : goal.invariant-loop-cell
