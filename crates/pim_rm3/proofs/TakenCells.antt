@@ -9,24 +9,24 @@ use Rattle.pim_graph.specs.Peaks.{needed, read_by}
 use Rattle.pim_graph.specs.Readers.{occurrences, reads}
 use Rattle.pim_rm3.specs.Taking.{can_be_taken}
 
-pub or_lt : (a b : ℕ) (p q : Bool) → p ≡ nat_lt 0 a → q ≡ nat_lt 0 b → (p || q) ≡ nat_lt 0 (a + b)
+or_lt : (a b : ℕ) (p q : Bool) → p ≡ nat_lt 0 a → q ≡ nat_lt 0 b → (p || q) ≡ nat_lt 0 (a + b)
 or_lt a b p q e f = grind (arith, nat_tests)
 
 one_lt : (b : Bool) → b ≡ nat_lt 0 (cond b 1 0)
 one_lt true = refl
 one_lt false = refl
 
-pub has-occurrences : (xs : List ℕ) (x : ℕ) → has xs x ≡ nat_lt 0 (occurrences xs x)
+has-occurrences : (xs : List ℕ) (x : ℕ) → has xs x ≡ nat_lt 0 (occurrences xs x)
 has-occurrences [] x = refl
 has-occurrences (y ∷ ys) x = or_lt (cond (eqb y x) 1 0) (occurrences ys x) (eqb y x) (has ys x) (one_lt (eqb y x)) (has-occurrences ys x)
 
-pub lt_some : (n : ℕ) → nat_lt 0 n ≡ true → 0 < n
+lt_some : (n : ℕ) → nat_lt 0 n ≡ true → 0 < n
 lt_some n h = grind (arith, nat_tests)
 
-pub lt_none : (n : ℕ) → n ≡ 0 → nat_lt 0 n ≡ false
+lt_none : (n : ℕ) → n ≡ 0 → nat_lt 0 n ≡ false
 lt_none n h = grind (arith, nat_tests)
 
-pub reads_drop : (v : GraphView) (xs : List ℕ) (p x : ℕ) → reads v (drop p xs) x ≤ reads v xs x
+reads_drop : (v : GraphView) (xs : List ℕ) (p x : ℕ) → reads v (drop p xs) x ≤ reads v xs x
 reads_drop v [] zero x = omega arith
 reads_drop v [] (suc p) x = omega arith
 reads_drop v (y ∷ ys) zero x = omega arith
@@ -39,18 +39,18 @@ pub record IsTakeable (inputs : ℕ) (v : GraphView) (l : ℕ) : Type 0 where
   pub no_root : has v.roots l ≡ false
   pub once : reads v (order v) l ≡ 1
 
-pub and_both : (a b : Bool) → (a && b) ≡ true → (a ≡ true) × (b ≡ true)
+and_both : (a b : Bool) → (a && b) ≡ true → (a ≡ true) × (b ≡ true)
 and_both true b h = (refl, h)
 and_both false b h = absurd (false≢true h)
 
-pub not_true : (b : Bool) → not b ≡ true → b ≡ false
+not_true : (b : Bool) → not b ≡ true → b ≡ false
 not_true true h = absurd (false≢true h)
 not_true false h = refl
 
-pub is_eq : (a b : ℕ) → eqb a b ≡ true → a ≡ b
+is_eq : (a b : ℕ) → eqb a b ≡ true → a ≡ b
 is_eq a b h = grind (arith, nat_tests)
 
-pub is_lt : (a b : ℕ) → nat_lt a b ≡ true → a < b
+is_lt : (a b : ℕ) → nat_lt a b ≡ true → a < b
 is_lt a b h = grind (arith, nat_tests)
 
 pub takeable : (inputs : ℕ) (v : GraphView) (l : ℕ) → can_be_taken inputs v l ≡ true → IsTakeable inputs v l
