@@ -1,5 +1,5 @@
 -- The adder of one bit, and its first row, by computation.
-use Rattle.std.specs.Prelude.{◌≡◌, Bool, true, false, List, [], ◌∷◌, None, Some, codes, refl}
+use Rattle.std.specs.Prelude.{◌≡◌, true, false, [], ◌∷◌, None, Some, codes, refl}
 use Rattle.pim_net.specs.Faults.{net_fault}
 use Rattle.pim_net.specs.Values.{val}
 use Rattle.pim_adder.specs.Adders.{adder}

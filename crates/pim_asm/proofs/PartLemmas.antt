@@ -1,6 +1,6 @@
 -- A text has room for its ports and instructions: two bytes and more for each of them.
 use Rattle.std.proofs.Common.{◌≡◌, ℕ, ◌+◌, ◌*◌, ◌≤◌, Bool, true, false, cond, List, [], ◌∷◌, ◌++◌, length, Option, Some, None, Result, Ok, Err, refl, ap, arith}
-use Rattle.std.specs.Option.{option_map, ok_or, is_some}
+use Rattle.std.specs.Option.{option_map, ok_or}
 use Rattle.std.specs.Prelude.{IfOk}
 use Rattle.std.proofs.lemmas.List.{length-append}
 use Rattle.pim_io.specs.declared.limits.TheConstants.{MAX_PROGRAM}

@@ -1,5 +1,5 @@
 -- The words of a line of assembly, cut at its blanks.
-use Rattle.std.proofs.Common.{◌≡◌, ℕ, suc, ◌+◌, ◌<◌, Bool, true, false, not, ◌||◌, List, [], ◌∷◌, ◌++◌, length, get_or, take, drop, refl, ap, sym, ◌∙◌, arith, add-one, drop-cons}
+use Rattle.std.proofs.Common.{◌≡◌, ℕ, suc, ◌+◌, ◌<◌, Bool, true, false, not, List, [], ◌∷◌, ◌++◌, length, get_or, take, drop, refl, ap, sym, ◌∙◌, arith, add-one, drop-cons}
 use Rattle.std.proofs.lemmas.Bool.Decides.{nat_tests}
 use Rattle.std.proofs.lemmas.List.{take_more}
 use Rattle.pim_io.specs.Words.{is_blank, close}
@@ -17,10 +17,6 @@ quote_ends_nothing false b h = grind (arith, nat_tests)
 plain_ends_nothing : (b : ℕ) → is_semicolon b ≡ false → is_blank b ≡ false → ends_word false b ≡ false
 plain_ends_nothing b h k = rw (h, k) refl
 
--- one blank at the front
-pub words-blank : (b : ℕ) (text : List ℕ) → is_blank b ≡ true → words (b ∷ text) ≡ words text
-words-blank b text h = rw (blank_no_semicolon b h, h) refl
-
 -- a run and the byte that ends it
 
 words_after-blank : (run : List ℕ) (b : ℕ) (text : List ℕ) → is_blank b ≡ true → words_after false run (b ∷ text) ≡ close run (words (b ∷ text))
@@ -32,28 +28,10 @@ semicolon_no_blank b h = grind (arith, nat_tests)
 words_after-semicolon : (run : List ℕ) (b : ℕ) (text : List ℕ) → is_semicolon b ≡ true → words_after false run (b ∷ text) ≡ close run (words (b ∷ text))
 words_after-semicolon run b text h = rw (semicolon_no_blank b h, h) refl
 
--- no word stands where a text begins with a semicolon, or is empty
-
-first_semicolon : (b : ℕ) (text : List ℕ) → is_blank b ≡ false → (is_blank b || is_semicolon b) ≡ true → words (b ∷ text) ≡ []
-first_semicolon b text h k =
-    let semicolon : is_semicolon b ≡ true = grind (arith, nat_tests) in
-    rw (h, semicolon) refl
-
-pub no_word : (text : List ℕ) → (0 < length text → is_blank (get_or text 0 0) ≡ false) → (0 < length text → ends_word false (get_or text 0 0) ≡ true) → words text ≡ []
-no_word [] first stops = refl
-no_word (b ∷ text) first stops = first_semicolon b text (first (omega arith)) (stops (omega arith))
-
 -- a run that is not empty is a word
 pub close_some : (run : List ℕ) (ws : List (List ℕ)) → 0 < length run → close run ws ≡ run ∷ ws
 close_some [] ws h = absurd (omega arith)
 close_some (b ∷ run) ws h = refl
-
--- the text from a place on
-
-pub skipped : (text : List ℕ) (i : ℕ) → i < length text → is_blank (get_or text i 0) ≡ true → words (drop i text) ≡ words text → words (drop (i + 1) text) ≡ words text
-skipped text i h blank same =
-    let cut : drop i text ≡ get_or text i 0 ∷ drop (suc i) text = drop-cons text i 0 h in
-    rw add-one (sym (words-blank (get_or text i 0) (drop (suc i) text) blank) ∙ ap words (sym cut) ∙ same)
 
 -- one more byte of a run
 

@@ -19,9 +19,6 @@ AreOf inputs ls = All (λ l. length l ≡ inputs) ls
 abbrev FitIn : ℕ → List (List ℕ) → ℕ → Type 0
 FitIn inputs ls bytes = length ls * (inputs + 1) ≤ bytes + 1
 
-fit_none : (inputs bytes : ℕ) → FitIn inputs [] bytes
-fit_none inputs bytes = omega arith
-
 fit_more : (inputs : ℕ) (line : List ℕ) (ls : List (List ℕ)) (bytes : ℕ) → AreOf inputs (line ∷ ls) →
     (AreOf inputs ls → FitIn inputs ls bytes) → (all : ℕ) → length line + bytes + 1 ≤ all → FitIn inputs (line ∷ ls) all
 fit_more inputs line ls bytes are rest all room =

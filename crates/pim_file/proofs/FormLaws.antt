@@ -115,12 +115,6 @@ binary_is bytes p tagged e =
 
 -- both forms
 
-pub is_binary-bin : (p : ProgramView) → is_binary (bin p) ≡ true
-is_binary-bin p = refl
-
-pub is_binary-text : (p : ProgramView) → is_binary (text_of p) ≡ false
-is_binary-text p = refl
-
 pub parse_of-bin : (p : ProgramView) → IsProgram p → parse_of (bin p) ≡ Ok p
 unfolding parse_of
 parse_of-bin p h = parse2_of-bin p h

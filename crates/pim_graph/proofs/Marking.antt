@@ -132,16 +132,6 @@ held_few g order q marks count most within held =
     let b = length-take q order in
     omega (arith, held.held)
 
--- a gate that is marked is one of those counted
-pub held_one : (g : GraphView) (order : List ℕ) (q : ℕ) (marks : List Bool) (count most one : ℕ) → IsPlaced g order → 0 < q → q ≤ length order → IsHeld g (take q order) (drop q order) marks count most → one ≡ cond (is_marked marks (get_or order (q - 1) 0)) 1 0 → one ≤ count
-held_one g order q marks count most one placed some within held is =
-    let x = get_or order (q - 1) 0 in
-    let e : q ≡ q - 1 + 1 = omega arith in
-    let grown : take q order ≡ take (q - 1) order ++ x ∷ [] = ap (λ (n : ℕ). take n order) e ∙ take_more order (q - 1) 0 (omega arith) in
-    let split = ap (count_by (needed g (drop q order))) grown ∙ count_push (needed g (drop q order)) (take (q - 1) order) x in
-    let bit = ap (λ (b : Bool). cond {A = ℕ} b 1 0) (held.marked x (placed.there (q - 1) 0 (omega arith))) in
-    omega (arith, held.held)
-
 -- there are no earlier gates
 pub held_ends : (g : GraphView) (order : List ℕ) (q : ℕ) (marks : List Bool) (count most : ℕ) → q ≤ 0 → IsHeld g (take q order) (drop q order) marks count most → most ≡ peak g order
 held_ends g order zero marks count most end held = held.most

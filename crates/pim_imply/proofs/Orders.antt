@@ -1,13 +1,12 @@
 -- The order of the gates.
-use Rattle.std.proofs.Common.{◌≡◌, ℕ, ◌*◌, ◌<◌, ◌≤◌, List, [], length, All, Option, None, sym, ap, subst, arith}
+use Rattle.std.proofs.Common.{◌≡◌, ℕ, ◌*◌, ◌<◌, ◌≤◌, List, [], length, All, Option, ap, subst, arith}
 use Rattle.pim_aig.specs.Graph.{AigView, nodes}
-use Rattle.pim_graph.specs.Allotments.{AllotmentView, IsAllotment, IsOver, taken_at}
+use Rattle.pim_graph.specs.Allotments.{AllotmentView, IsAllotment}
 use Rattle.pim_graph.specs.Graphs.{GraphView}
 use Rattle.pim_graph.specs.Orders.{IsReached, order}
 use Rattle.pim_graph.specs.Peaks.{IsPlaced}
 use Rattle.pim_imply.specs.Gates.{gates, imply_graph}
 use Rattle.pim_imply.proofs.GateReads.{kids_count}
-use Rattle.pim_imply.proofs.Walks.{none_some}
 
 -- the gates of the order are there
 pub order_there : (g : AigView) (v : GraphView) → v ≡ imply_graph g → IsPlaced v (order v) → All (λ l. l < 2 * nodes g) (gates g)
@@ -22,15 +21,6 @@ order_few g v is few =
     let b = ap (λ (w : GraphView). length w.kids) is in
     let d = kids_count g in
     omega arith
-
--- nothing is taken over
-pub none_over : (v : GraphView) (xs : List ℕ) (over : List (Option ℕ)) → over ≡ [] → IsOver v xs over
-none_over v xs over e =
-    let P : List (Option ℕ) → Type 0 = λ o. IsOver v xs o in
-    subst P (sym e) (record { child = λ p c h some. absurd (none_some p c some); last = λ p c h some. absurd (none_some p c some) })
-
-pub none_at : (over : List (Option ℕ)) (p : ℕ) → over ≡ [] → taken_at over p ≡ None
-none_at over p e = ap (λ (o : List (Option ℕ)). taken_at o p) e
 
 pub moved : (v w : GraphView) (xs ys : List ℕ) (o u : List (Option ℕ)) (f h : ℕ) (a : AllotmentView) → v ≡ w → xs ≡ ys → o ≡ u → f ≡ h → IsAllotment v xs o f a → IsAllotment w ys u h a
 moved v w xs ys o u f h a p q r s all =

@@ -145,9 +145,6 @@ filled_rows cells w items word x lanes is r row =
     ∙ ap (λ (ws : List ℕ). lane ws r) (column_in-replicate w cells c word small)
     ∙ lanes r row)
 
-pub zero_lanes : (w r : ℕ) → r < 64 * w → lane (replicate w 0) r ≡ false
-zero_lanes w r row = lane-zeros w r
-
 pub fill_lanes : (fill : Fill) (w r : ℕ) → r < 64 * w → lane (replicate w (fill_word fill)) r ≡ fill_bit fill
 fill_lanes Zeros w r row = lane-zeros w r
 fill_lanes Ones w r row = lane-ones w r row

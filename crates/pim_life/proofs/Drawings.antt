@@ -1,5 +1,5 @@
 -- Gates that cells hold, and the program's own order of its gates.
-use Rattle.std.proofs.Common.{◌≡◌, ℕ, zero, suc, ◌+◌, ◌<◌, ◌≤◌, Bool, true, false, ◌||◌, cond, List, [], ◌∷◌, ◌++◌, length, set, take, get_or, Option, Some, None, inl, inr, refl, sym, ap, subst, ◌∙◌, arith, length-append, get_or-set_other}
+use Rattle.std.proofs.Common.{◌≡◌, ℕ, zero, suc, ◌+◌, ◌<◌, ◌≤◌, Bool, true, false, ◌||◌, cond, List, [], ◌∷◌, ◌++◌, length, set, take, get_or, Option, Some, None, inl, inr, refl, sym, ap, subst, ◌∙◌, arith, get_or-set_other}
 use Rattle.std.specs.Prelude.{All}
 use Rattle.std.specs.List.{range_with_len}
 use Rattle.std.proofs.lemmas.Bool.{cases_eq, eq-eqb, ne_eqb}
@@ -33,21 +33,6 @@ set_none held d c gate is =
 pub holds_emptied : (kids : List (List ℕ)) (cs : List ℕ) (held : List (Option ℕ)) → Holds kids held → Holds kids (emptied cs held)
 holds_emptied kids [] held holds = holds
 holds_emptied kids (c ∷ cs) held holds = holds_emptied kids cs (set held c None) (λ d gate is. holds d gate (set_none held c d gate is))
-
-pub holds_put : (kids : List (List ℕ)) (children : List ℕ) (held : List (Option ℕ)) (t : ℕ) → Holds kids held →
-    Holds (kids ++ children ∷ []) (set held t (Some (length kids)))
-holds_put kids children held t holds = λ c gate is.
-    elim (cases_eq t c) [
-      | inl same ↦
-          let here : gate_in (set held t (Some (length kids))) t ≡ Some gate =
-          subst (λ (x : ℕ). gate_in (set held t (Some (length kids))) x ≡ Some gate) (sym same) is in
-          let last : length kids ≡ gate = some_there held t (length kids) gate here in
-          omega (arith, last, length-append kids (children ∷ []))
-      | inr other ↦
-          let before : gate < length kids =
-          holds c gate (sym (get_or-set_other held t c (Some (length kids)) None (λ same. other (sym same))) ∙ is) in
-          omega (arith, before, length-append kids (children ∷ []))
-    ]
 
 with_gate_within : (n : ℕ) (gates : List ℕ) (o : Option ℕ) → ((gate : ℕ) → o ≡ Some gate → gate < n) → All (λ x. x < n) gates →
     All (λ x. x < n) (with_gate gates o)

@@ -1,5 +1,5 @@
 -- Which cells are set, as marks tell it.
-use Rattle.std.proofs.Common.{◌≡◌, ℕ, zero, suc, ◌+◌, ◌<◌, Bool, true, false, ◌||◌, eqb, List, [], ◌∷◌, ◌++◌, length, drop, set, get_or, replicate, Option, Some, None, inl, inr, refl, sym, ap, subst, ◌∙◌, add-one, drop-cons, length-set, get_or-set_same, get_or-set_other}
+use Rattle.std.proofs.Common.{◌≡◌, ℕ, zero, suc, ◌+◌, ◌<◌, Bool, true, false, ◌||◌, eqb, List, [], ◌∷◌, ◌++◌, length, drop, set, get_or, replicate, Option, None, inl, inr, refl, sym, ap, subst, ◌∙◌, add-one, drop-cons, length-set, get_or-set_same, get_or-set_other}
 use Rattle.std.specs.Prelude.{All, option_map}
 use Rattle.std.specs.Option.{option_or}
 use Rattle.std.proofs.lemmas.Bool.{cases_eq, eq-eqb, ne_eqb}
@@ -72,18 +72,6 @@ walk_more items outputs k i m new whole small is within none new_is before =
     ap (λ (x : List Bool). unset_from (bit x) (k + 1) rest outputs) new_is
     ∙ unset_from-same (bit (set_ones (writes i) m)) (set_after (bit m) i) (λ c. bit-set_ones (writes i) m c within) (k + 1) rest outputs
     ∙ ap (λ (o : Option ℕ). option_or (option_map (λ c. Used k c) o) (unset_from (set_after (bit m) i) (k + 1) rest outputs)) (sym none)
-    ∙ ap (λ (j : Instr). unset_from (bit m) k (j ∷ rest) outputs) is
-    ∙ ap (λ (js : List Instr). unset_from (bit m) k js outputs) (sym front)
-    ∙ before
-
--- one that does
-pub walk_found : (items : List Instr) (outputs : List ℕ) (k c : ℕ) (i : Instr) (m : List Bool) (whole : Option Unset) →
-    k < length items → i ≡ get_or items k i → Some c ≡ first_unset_of (bit m) (uses i) →
-    unset_from (bit m) k (drop k items) outputs ≡ whole → Some (Used k c) ≡ whole
-walk_found items outputs k c i m whole small is found before =
-    let rest = drop (k + 1) items in
-    let front : drop k items ≡ get_or items k i ∷ drop (k + 1) items = rw add-one (drop-cons items k i small) in
-    ap (λ (o : Option ℕ). option_or (option_map (λ c. Used k c) o) (unset_from (set_after (bit m) i) (k + 1) rest outputs)) found
     ∙ ap (λ (j : Instr). unset_from (bit m) k (j ∷ rest) outputs) is
     ∙ ap (λ (js : List Instr). unset_from (bit m) k js outputs) (sym front)
     ∙ before

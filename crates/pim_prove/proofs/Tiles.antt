@@ -1,22 +1,18 @@
 -- Vectors compared 64 at once, and tile by tile.
-use Rattle.std.proofs.Common.{◌≡◌, ℕ, suc, ◌+◌, ◌-◌, ◌*◌, ◌%◌, ◌^◌, ◌<◌, ◌≤◌, Bool, true, false, eqb, List, ◌∷◌, length, drop, set, get_or, replicate, Option, Some, None, inl, inr, refl, sym, ap, ◌∙◌, arith, add-one, drop-cons}
-use Rattle.std.specs.Prelude.{is_some}
+use Rattle.std.proofs.Common.{◌≡◌, ℕ, suc, ◌+◌, ◌-◌, ◌*◌, ◌%◌, ◌^◌, ◌<◌, Bool, true, false, eqb, List, ◌∷◌, length, drop, set, get_or, Option, Some, None, refl, sym, ap, ◌∙◌, arith, add-one, drop-cons}
 use Rattle.std.specs.Int.{bit_at, trailing_zeros, w64}
-use Rattle.std.proofs.lemmas.Bool.{cases_lt, false≢true, true≢false}
-use Rattle.std.proofs.lemmas.List.{drop_all}
+use Rattle.std.proofs.lemmas.Bool.{true≢false}
 use Rattle.std.proofs.lemmas.Nat.Bits.{bit_at-trailing_zeros}
 use Rattle.pim_aig.specs.declared.literal.Lit.{Lit}
 use Rattle.pim_aig.specs.Graph.{AigView}
 use Rattle.pim_aig.specs.Values.{aval, literal_value, node_values}
 use Rattle.pim_io.specs.Lanes.{is_set, lane}
 use Rattle.pim_isa.specs.declared.port.Port.{Port}
-use Rattle.pim_isa.specs.declared.target.Fill.TheVariants.{Zeros}
 use Rattle.pim_isa.specs.Programs.{ProgramView}
-use Rattle.pim_isa.specs.Results.{fill_bit, load, with_inputs}
+use Rattle.pim_isa.specs.Results.{with_inputs}
 use Rattle.pim_isa.specs.Steps.{bit}
 use Rattle.pim_lanes.specs.Banks.{BankView, row_of}
 use Rattle.pim_prove.specs.declared.blocks.TheConstants.{BLOCK}
-use Rattle.pim_prove.specs.declared.comparing.Difference.{Difference}
 use Rattle.pim_prove.specs.Vectors.{digits}
 use Rattle.pim_prove.specs.inner.Comparing.{IsFound, differ, first_at, first_unlike, lanes_of, row_at, words_at}
 use Rattle.pim_prove.proofs.BitLemmas.{is_set-zero}
@@ -39,16 +35,6 @@ loaded_more ports i p old new m b left n x small at left_is new_is bit_is before
     ∙ ap (λ (k : ℕ). with_inputs (get_or ports i p ∷ rest) (digits k x) old) (sym left_is)
     ∙ ap (λ (qs : List Port). with_inputs qs (digits left x) old) (sym front)
     ∙ before
-
--- all inputs were
-pub loaded_all : (p : ProgramView) (items : List Port) (i left x cells : ℕ) (row first : List Bool) → items ≡ p.inputs → length items ≤ i →
-    first ≡ replicate cells (fill_bit Zeros) → cells ≡ p.cells →
-    with_inputs (drop i items) (digits left x) row ≡ with_inputs items (digits (length items) x) first → row ≡ load p Zeros (digits (length p.inputs) x)
-loaded_all p items i left x cells row first items_are past first_is cells_are before =
-    ap (λ (qs : List Port). with_inputs qs (digits left x) row) (sym (drop_all i items past))
-    ∙ before
-    ∙ ap (with_inputs items (digits (length items) x)) (first_is ∙ ap (λ (n : ℕ). replicate n (fill_bit Zeros)) cells_are)
-    ∙ ap (λ (qs : List Port). with_inputs qs (digits (length qs) x) (replicate p.cells (fill_bit Zeros))) items_are
 
 -- ---- one word
 
@@ -167,28 +153,3 @@ module _ (p : ProgramView) (g : AigView) (bank : BankView) (blocks : List (List 
   word_found k some fits a are first =
       word_some p g word lanes (trailing_zeros w64 lanes) (64 * word + trailing_zeros w64 lanes) k (64 * word + 64) some fits refl (lanes_are a are) refl
       (first_there (Some k) some fits a first)
-
--- ---- one after another
-
--- nothing lies between a number and itself
-pub found_nothing : (p : ProgramView) (g : AigView) (a b : ℕ) → b ≤ a → IsFound p g a b None
-found_nothing p g a b empty = λ x low high. absurd (omega arith)
-
--- where nothing was found up to a number, what is found from there on is found from the first on
-pub found_then : (p : ProgramView) (g : AigView) (a b c : ℕ) (found : Option Difference) → IsFound p g a b None → IsFound p g b c found → IsFound p g a c found
-found_then p g a b c None before after = λ x low high.
-    elim (cases_lt x b) [ inl below ↦ before x low below | inr above ↦ after x above high ]
-found_then p g a b c (Some d) before after =
-    (λ x low below. elim (cases_lt x b) [ inl lower ↦ before x low lower | inr above ↦ after.0 x above below ], after.1)
-
-pub found_none : (p : ProgramView) (g : AigView) (a b : ℕ) (found : Option Difference) → is_some found ≡ false → IsFound p g a b found → IsFound p g a b None
-found_none p g a b None none is = is
-found_none p g a b (Some d) none is = absurd (true≢false none)
-
--- up to where something is looked for makes no difference once it is found, and a lower end none where nothing is
-pub found_some : (p : ProgramView) (g : AigView) (a b c : ℕ) (found : Option Difference) → is_some found ≡ true → IsFound p g a b found → IsFound p g a c found
-found_some p g a b c None some is = absurd (false≢true some)
-found_some p g a b c (Some d) some is = is
-
-pub found_lower : (p : ProgramView) (g : AigView) (a b c : ℕ) → c ≤ b → IsFound p g a b None → IsFound p g a c None
-found_lower p g a b c lower is = λ x low high. is x low (omega arith)

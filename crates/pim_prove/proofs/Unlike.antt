@@ -1,8 +1,8 @@
 -- Outputs of a row and of a graph, one beside the other.
-use Rattle.std.proofs.Common.{◌≡◌, ◌≢◌, ℕ, suc, ◌+◌, ◌*◌, ◌<◌, ◌≤◌, Bool, true, false, ◌||◌, cond, List, [], ◌∷◌, length, drop, take, map, get_or, Option, Some, None, inl, inr, refl, sym, ap, subst, ◌∙◌, arith, add-one, drop-cons, bit_or}
+use Rattle.std.proofs.Common.{◌≡◌, ◌≢◌, ℕ, suc, ◌+◌, ◌*◌, ◌<◌, Bool, true, false, ◌||◌, cond, List, [], ◌∷◌, length, drop, take, map, get_or, Option, Some, None, inl, inr, refl, sym, ap, subst, ◌∙◌, arith, add-one, drop-cons, bit_or}
 use Rattle.std.specs.Prelude.{All, bit_xor}
 use Rattle.std.proofs.lemmas.Bool.{cases_Bool, false≢true, true≢false, or_parts}
-use Rattle.std.proofs.lemmas.List.{drop_all, get_or-map, length-map}
+use Rattle.std.proofs.lemmas.List.{get_or-map, length-map}
 use Rattle.pim_aig.specs.declared.literal.Lit.{Lit}
 use Rattle.pim_io.specs.Lanes.{is_set, lane}
 use Rattle.pim_isa.specs.declared.port.Port.{Port}
@@ -24,10 +24,6 @@ unlike true true is = absurd (false≢true is)
 unlike true false is = true≢false
 unlike false true is = false≢true
 unlike false false is = absurd (false≢true is)
-
-or_nothing : (b : Bool) → (b || false) ≡ b
-or_nothing true = refl
-or_nothing false = refl
 
 or_assoc : (a b c : Bool) → ((a || b) || c) ≡ (a || (b || c))
 or_assoc true b c = refl
@@ -117,14 +113,6 @@ lanes_more f g ps ls k p d lanes word value r whole in_ps in_ls p_is word_is val
     ∙ ap (λ (ms : List Lit). is_set lanes r || differ f g (drop k ps) ms) (sym front_l)
     ∙ before
 
--- all outputs
-pub lanes_all : (f : ℕ → Bool) (g : Lit → Bool) (ps : List Port) (ls : List Lit) (k lanes r : ℕ) → length ps ≤ k →
-    (is_set lanes r || differ f g (drop k ps) (drop k ls)) ≡ differ f g ps ls → is_set lanes r ≡ differ f g ps ls
-lanes_all f g ps ls k lanes r past before =
-    sym (or_nothing (is_set lanes r))
-    ∙ ap (λ (qs : List Port). is_set lanes r || differ f g qs (drop k ls)) (sym (drop_all k ps past))
-    ∙ before
-
 -- the first of the outputs from one on, which is the same
 pub first_more : (f : ℕ → Bool) (g : Lit → Bool) (ps : List Port) (ls : List Lit) (k : ℕ) (p : Port) (d : Lit) (word value r : ℕ) (whole : Option ℕ) →
     k < length ps → k < length ls → p ≡ get_or ps k p → is_set word r ≡ f p.cell → is_set value r ≡ g (get_or ls k d) →
@@ -160,12 +148,6 @@ first_here f g ps ls k p d word value r whole in_ps in_ls p_is word_is value_is 
     ∙ ap (λ (qs : List Port). first_unlike f g k qs (get_or ls k d ∷ drop (k + 1) ls)) (sym front_p)
     ∙ ap (λ (ms : List Lit). first_unlike f g k (drop k ps) ms) (sym front_l)
     ∙ before
-
--- none is left
-pub first_none : (f : ℕ → Bool) (g : Lit → Bool) (ps : List Port) (ls : List Lit) (k : ℕ) (whole : Option ℕ) → length ps ≤ k →
-    first_unlike f g k (drop k ps) (drop k ls) ≡ whole → None ≡ whole
-first_none f g ps ls k whole past before =
-    ap (λ (qs : List Port). first_unlike f g k qs (drop k ls)) (sym (drop_all k ps past)) ∙ before
 
 -- ---- ports and columns
 

@@ -76,9 +76,6 @@ without_one p t a (suc n) low high marked = elim (eqb_tells t a) [
       omega arith
 ]
 
-at_most : (p : ℕ → Bool) (t a : ℕ) → cond (p a) 1 0 ≤ cond (without p t a) 1 0 + 1
-at_most p t a = omega (arith, one_at_most (p a))
-
 pub without_few : (p : ℕ → Bool) (t a n : ℕ) → counted p a n ≤ counted (without p t) a n + 1
 without_few p t a zero = omega arith
 without_few p t a (suc n) = elim (eqb_tells t a) [

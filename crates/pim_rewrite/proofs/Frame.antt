@@ -29,9 +29,6 @@ positive n h = grind (arith, nat_tests)
 pub is_positive : (n : ℕ) → 0 < n → ltb 0 n ≡ true
 is_positive n h = grind (arith, nat_tests)
 
-pub not_positive : (n : ℕ) → ltb 0 n ≡ false → n ≡ 0
-not_positive n h = grind (arith, nat_tests)
-
 abbrev pub none : Maj
 none = record { x = record { 0 = 0 }; y = record { 0 = 0 }; z = record { 0 = 0 } }
 
@@ -134,10 +131,6 @@ ops_before i n m rest b h =
     let y = times_other i (node m.y) (let e = b.y 0 none (omega arith) in omega arith) in
     let z = times_other i (node m.z) (let e = b.z 0 none (omega arith) in omega arith) in
     omega arith
-
--- the list of reads from a node on
-abbrev pub later_reads : List ℕ → ℕ → Maj → List Maj → List ℕ
-later_reads outs n m rest = reads_from outs (suc n) rest
 
 split_by : (b : Bool) (m : Maj) (later : List ℕ) (i : ℕ) → times i (cond b (node m.x ∷ node m.y ∷ node m.z ∷ later) later) ≡ times i (cond b (ops m) []) + times i later
 split_by true m later i = omega arith

@@ -96,10 +96,6 @@ case_step g n k nodes d b there is none_here whole =
     ∙ sym (ap (λ (c : Bool). c || has_case_from g (suc n) (drop (k + 1) nodes)) (sym is ∙ none_here))
     ∙ sym (ap (has_case_from g n) cut) ∙ whole
 
-pub case_found : (g : MigView) (n k : ℕ) (nodes : List Maj) (d : Maj) (b : Bool) → k < length nodes → b ≡ (is_needed g n && is_some (case_of g (get_or nodes k d))) → b ≡ true → has_case_from g n (drop k nodes) ≡ has_case g → has_case g ≡ true
-case_found g n k nodes d b there is some_here whole =
-    sym whole ∙ ap (has_case_from g n) (drop_more nodes k d there) ∙ ap (λ (c : Bool). c || has_case_from g (suc n) (drop (k + 1) nodes)) (sym is ∙ some_here)
-
 -- the literals of a case are of earlier nodes
 operand_first : (g : MigView) (e l : Lit) (n : ℕ) → IsMig g → Single g e → e.0 < 2 * size g → e.0 < 2 * n → IsOperand l (node_at g e) → l.0 < 2 * n
 operand_first g e l n sound s there h o =

@@ -243,10 +243,6 @@ node_at_ren g t e r low high needed =
     (let a = node_ren g e in let b = ap (rank g) (sym at) in let c = rank_node g k in let d = r.inputs in omega arith) in
     ap (λ (j : ℕ). get_or t.nodes j none) place ∙ r.copied.nodes_are k none (omega arith) (ap (is_needed g) at ∙ needed)
 
-some_cond : (b : Bool) (o : Option Case) → is_some (cond b o None) ≡ (b && is_some o)
-some_cond true o = refl
-some_cond false o = refl
-
 some_both : (c : Bool) (o p : Option Case) → (c ≡ true → is_some o ≡ is_some p) → is_some (cond c o None) ≡ is_some (cond c p None)
 some_both true o p h = h refl
 some_both false o p h = refl

@@ -153,9 +153,6 @@ at_rest g k m rest are needed = record {
   needed = needed;
 }
 
-stepped_is : (step : Step) (st : Making) (m : Maj) (b : Bool) → b ≡ true → stepped b step st m ≡ step st m
-stepped_is step st m b e = ap (λ (c : Bool). stepped c step st m) e
-
 rest_values : (step : Step) (g t : MigView) (bits : List Bool) (st : Making) (k : ℕ) (rest : List Maj) → AreTwo g t bits → Grows step → KeepsValues step g t bits → AreRest g k rest → length st.lits ≡ 1 + g.inputs + k → IsFront (passed_from step (is_needed g) st (1 + g.inputs + k) rest).nodes t.nodes → AreValued g t bits st.lits → AreValued g t bits (passed_from step (is_needed g) st (1 + g.inputs + k) rest).lits
 rest_values step g t bits st k [] two grows keeps are len front v = v
 rest_values step g t bits st k (m ∷ rest) two grows keeps are len front v =
