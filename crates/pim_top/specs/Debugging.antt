@@ -1,5 +1,5 @@
 -- What the lines of a debugger's input come to: the first one is the vector of a session, and each further one is a command of it.
-use Rattle.std.specs.Prelude.{◌≡◌, ℕ, ◌+◌, ◌==◌, nat_lt, Bool, true, false, List, [], ◌∷◌, ◌++◌, length, if◌then◌else◌, Option, None, Some}
+use Rattle.std.specs.Prelude.{◌≡◌, ℕ, ◌+◌, ◌==◌, nat_lt, Bool, List, [], ◌∷◌, ◌++◌, length, if◌then◌else◌, Option, None, Some}
 use Rattle.pim_debug.specs.Answers.{AnswersLine, refusal_of}
 use Rattle.pim_debug.specs.Commands.{command_of}
 use Rattle.pim_debug.specs.States.{SessionView, State}

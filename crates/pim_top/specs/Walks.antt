@@ -1,5 +1,5 @@
 -- How a walk over the lines of an input ends, which executes each line as a row and writes a tile of results at a time.
-use Rattle.std.specs.Prelude.{◌≡◌, ℕ, ◌-◌, ◌%◌, ◌≤◌, Bool, List, [], ◌++◌, length, map, take, Option, None, Some, Result, Ok, Err}
+use Rattle.std.specs.Prelude.{◌≡◌, ℕ, ◌-◌, ◌%◌, ◌≤◌, Bool, List, [], length, map, take, Option, None, Some, Result, Ok, Err}
 use Rattle.pim_io.specs.Bits.{bits_of}
 use Rattle.pim_io.specs.Outside.{TookAll, TookFirst}
 use Rattle.pim_batch.specs.Runners.{Runner, results}

@@ -2,7 +2,7 @@
 use Rattle.std.specs.Prelude.{ℕ, Bool, List, [], ◌∷◌, ◌++◌, codes, decimal}
 use Rattle.pim_debug.specs.declared.reply.Reply.{Reply}
 use Rattle.pim_debug.specs.declared.reply.Reply.TheVariants as reply
-use Rattle.pim_io.specs.Bits.{digit_of, line_of}
+use Rattle.pim_io.specs.Bits.{line_of}
 use Rattle.pim_text.specs.Text.{counted_text}
 
 -- a breakpoint and its position
