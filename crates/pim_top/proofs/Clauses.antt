@@ -1,23 +1,27 @@
 -- What follows of how a call ended, whatever command its words say.
-use Rattle.std.proofs.Common.{◌≡◌, ◌≢◌, ◌⊎◌, ℕ, true, false, List, Some, Result, Ok, Err, inl, inr, refl, sym, ◌∙◌, subst}
+use Rattle.std.proofs.Common.{◌≡◌, ◌≢◌, ◌⊎◌, ◌<◌, ◌≤◌, ℕ, length, true, false, List, Some, Result, Ok, Err, inl, inr, refl, sym, ◌∙◌, subst}
 use Rattle.std.specs.Prelude.{OnOk}
 use Rattle.pim_io.specs.Outside.{Rose, Told}
+use Rattle.pim_io.specs.declared.limits.TheConstants.{MAX_PROGRAM}
 use Rattle.pim_words.specs.Reading.{command_said, is_usage}
 use Rattle.pim_words.specs.declared.command.Command.{Command}
 use Rattle.pim_words.specs.declared.command.Command.TheVariants.{Debug, Implyrun, Run}
 use Rattle.pim_top.specs.Calls.{Ends, FileIsFine, HasWritten, IsCalm, IsDecided, IsDone, IsFileDecided, IsIdle, IsObeyed, IsRefused, Obeys}
-use Rattle.pim_top.specs.Reads.{IsApart, OfBytes, OfInput, Tells, executes_rows, reads, streams}
+use Rattle.pim_top.specs.Decides.{FileDecides, LateDecides}
+use Rattle.pim_top.specs.Programs.{program_of}
+use Rattle.pim_top.specs.Reads.{IsApart, IsWithin, OfBytes, OfInput, Tells, executes_rows, reads, streams}
 use Rattle.pim_top.specs.Statuses.{answer_status, refusal_status}
 use Rattle.pim_top.specs.Streams.{IsUntouched, Seen}
 use Rattle.pim_top.specs.commands.Implyrun.{implyrun_of}
 use Rattle.pim_top.specs.commands.Run.{run_of}
+use Rattle.pim_top.specs.declared.judgement.Judgement.{Judgement}
 use Rattle.pim_top.specs.declared.refusal.Origin.TheVariants as origin
 use Rattle.pim_top.specs.declared.refusal.Refusal.{Refusal}
 use Rattle.pim_top.specs.declared.refusal.Refusal.TheVariants as refusal
 use Rattle.pim_top.specs.declared.status.Status.{Status}
 use Rattle.pim_top.specs.declared.status.Status.TheVariants as status
 use Rattle.pim_top.proofs.commands.debug.Ends.{debug-decided, debug-done, debug-file, debug-read, debug-steady, debug-usage, debug-write}
-use Rattle.pim_top.proofs.RowsEnds.{rows-decided, rows-done, rows-file, rows-memory, rows-read, rows-usage, rows-write}
+use Rattle.pim_top.proofs.RowsEnds.{FileRefusal, FileRows, Load, rows-decided, rows-done, rows-file, rows-memory, rows-read, rows-usage, rows-write}
 use Rattle.pim_top.proofs.StatusKinds.{refusal-done}
 use Rattle.pim_top.proofs.Told.{read-steady}
 use Rattle.pim_top.proofs.Wholes.{whole-decided, whole-done, whole-file, whole-nothing, whole-read, whole-usage, whole-write}
@@ -81,25 +85,27 @@ ends-memory c seen r rows h e = absurd (let z : ⊥ = cc in z)
 abbrev FileSays : Command → List ℕ → Status → Type 0
 FileSays c file s = FileIsFine c file ⊎ (IsFileDecided c file s ⊎ (s ≡ status.NoMemory))
 
+-- what loads the program file of a command decides as much as the command says of the file
+file-decided : {X : Type 0} (c : Command) (load : Load X) (file : List ℕ) (s : Status) → (MAX_PROGRAM < length file → FileDecides c file (refusal.TooLong origin.Program)) →
+    ((j : Judgement) → (length file ≤ MAX_PROGRAM) × (load file ≡ Err j) → FileDecides c file (refusal.Judged j)) → FileRefusal load file s → IsFileDecided c file s
+file-decided c load file s over judged h = elim h [
+  | inl long ↦ record { refusal = refusal.TooLong origin.Program; decided = over long.0; ends = long.1 }
+  | inr j ↦ record { refusal = refusal.Judged j.0; decided = judged j.0 (j.1, j.2); ends = j.3 }
+]
+
+file-says : {X : Type 0} (c : Command) (load : Load X) (file : List ℕ) (s : Status) → ((length file ≤ MAX_PROGRAM) × ((loaded : X) × (load file ≡ Ok loaded)) → FileIsFine c file) →
+    (MAX_PROGRAM < length file → FileDecides c file (refusal.TooLong origin.Program)) → ((j : Judgement) → (length file ≤ MAX_PROGRAM) × (load file ≡ Err j) → FileDecides c file (refusal.Judged j)) →
+    FileRows load file s → FileSays c file s
+file-says c load file s fine over judged h = elim h [
+  | inl f ↦ inl (fine f)
+  | inr (inl refused) ↦ inr (inl (file-decided c load file s over judged refused))
+  | inr (inr memory) ↦ inr (inr memory)
+]
+
 ends-file : (c : Command) (seen : Seen) (file : List ℕ) (result : Result (Unit {0}) Refusal) → Tells (reads c origin.Program) seen.program file → (Rose seen.program.faults seen.program.faults_now → ⊥) → Ends c seen result → FileSays c file (answer_status result)
-ends-file (Run fill) seen file result t calm h = elim (rows-file (run_of fill) seen file result t calm h) [
-  | inl fine ↦ inl fine
-  | inr (inl (inl long)) ↦ inr (inl (record { refusal = refusal.TooLong origin.Program; decided = long.0; ends = long.1 }))
-  | inr (inl (inr judged)) ↦ inr (inl (record { refusal = refusal.Judged judged.0; decided = (judged.1, judged.2); ends = judged.3 }))
-  | inr (inr memory) ↦ inr (inr memory)
-]
-ends-file (Implyrun fill) seen file result t calm h = elim (rows-file (implyrun_of fill) seen file result t calm h) [
-  | inl fine ↦ inl fine
-  | inr (inl (inl long)) ↦ inr (inl (record { refusal = refusal.TooLong origin.Program; decided = long.0; ends = long.1 }))
-  | inr (inl (inr judged)) ↦ inr (inl (record { refusal = refusal.Judged judged.0; decided = (judged.1, judged.2); ends = judged.3 }))
-  | inr (inr memory) ↦ inr (inr memory)
-]
-ends-file (Debug fill) seen file result t calm h = elim (debug-file fill seen file result t calm h) [
-  | inl fine ↦ inl fine
-  | inr (inl (inl long)) ↦ inr (inl (record { refusal = refusal.TooLong origin.Program; decided = long.0; ends = long.1 }))
-  | inr (inl (inr judged)) ↦ inr (inl (record { refusal = refusal.Judged judged.0; decided = (judged.1, judged.2); ends = judged.3 }))
-  | inr (inr memory) ↦ inr (inr memory)
-]
+ends-file (Run fill) seen file result t calm h = file-says (Run fill) (run_of fill) file _ (λ h. h) (λ h. h) (λ j h. h) (rows-file (run_of fill) seen file result t calm h)
+ends-file (Implyrun fill) seen file result t calm h = file-says (Implyrun fill) (implyrun_of fill) file _ (λ h. h) (λ h. h) (λ j h. h) (rows-file (implyrun_of fill) seen file result t calm h)
+ends-file (Debug fill) seen file result t calm h = file-says (Debug fill) program_of file _ (λ h. h) (λ h. h) (λ j h. h) (debug-file fill seen file result t calm h)
 ends-file c seen file result t calm h = elim (whole-file c seen file result t calm h) [
   | inl fine ↦ inl fine
   | inr (inl decided) ↦ inr (inl (record { refusal = decided.0; decided = decided.1; ends = decided.2 }))
@@ -110,25 +116,20 @@ ends-file c seen file result t calm h = elim (whole-file c seen file result t ca
 abbrev Say : Command → List ℕ → List ℕ → Status → Type 0
 Say c file bytes s = IsDecided c file bytes s ⊎ (s ≡ status.NoMemory)
 
+rows-say : {X : Type 0} {Late : Result (List ℕ) Refusal → Type 0} (c : Command) (load : Load X) (file bytes : List ℕ) (s : Status) → (MAX_PROGRAM < length file → FileDecides c file (refusal.TooLong origin.Program)) →
+    ((j : Judgement) → (length file ≤ MAX_PROGRAM) × (load file ≡ Err j) → FileDecides c file (refusal.Judged j)) →
+    ((answer : Result (List ℕ) Refusal) → (length file ≤ MAX_PROGRAM) × Late answer → IsWithin (reads c origin.Program) file × LateDecides c file bytes answer) →
+    FileRefusal load file s ⊎ (((answer : Result (List ℕ) Refusal) × (length file ≤ MAX_PROGRAM) × Late answer × (s ≡ answer_status answer)) ⊎ (s ≡ status.NoMemory)) → Say c file bytes s
+rows-say c load file bytes s over judged late h = elim h [
+  | inl refused ↦ let d = file-decided c load file s over judged refused in inl (record { answer = Err d.refusal; decided = inl d.decided; ends = d.ends })
+  | inr (inl l) ↦ inl (record { answer = l.0; decided = inr (late l.0 (l.1, l.2)); ends = l.3 })
+  | inr (inr memory) ↦ inr memory
+]
+
 ends-decided : (c : Command) (seen : Seen) (file bytes : List ℕ) (result : Result (Unit {0}) Refusal) → Tells (reads c origin.Program) seen.program file → Tells (reads c origin.Input) seen.input bytes → IsCalm seen → Ends c seen result → Say c file bytes (answer_status result)
-ends-decided (Run fill) seen file bytes result t u calm h = elim (rows-decided (run_of fill) seen file bytes result t u calm h) [
-  | inl (inl long) ↦ inl (record { answer = Err (refusal.TooLong origin.Program); decided = inl long.0; ends = long.1 })
-  | inl (inr judged) ↦ inl (record { answer = Err (refusal.Judged judged.0); decided = inl (judged.1, judged.2); ends = judged.3 })
-  | inr (inl late) ↦ inl (record { answer = late.0; decided = inr (late.1, late.2); ends = late.3 })
-  | inr (inr memory) ↦ inr memory
-]
-ends-decided (Implyrun fill) seen file bytes result t u calm h = elim (rows-decided (implyrun_of fill) seen file bytes result t u calm h) [
-  | inl (inl long) ↦ inl (record { answer = Err (refusal.TooLong origin.Program); decided = inl long.0; ends = long.1 })
-  | inl (inr judged) ↦ inl (record { answer = Err (refusal.Judged judged.0); decided = inl (judged.1, judged.2); ends = judged.3 })
-  | inr (inl late) ↦ inl (record { answer = late.0; decided = inr (late.1, late.2); ends = late.3 })
-  | inr (inr memory) ↦ inr memory
-]
-ends-decided (Debug fill) seen file bytes result t u calm h = elim (debug-decided fill seen file bytes result t u calm h) [
-  | inl (inl long) ↦ inl (record { answer = Err (refusal.TooLong origin.Program); decided = inl long.0; ends = long.1 })
-  | inl (inr judged) ↦ inl (record { answer = Err (refusal.Judged judged.0); decided = inl (judged.1, judged.2); ends = judged.3 })
-  | inr (inl late) ↦ inl (record { answer = late.0; decided = inr (late.1, late.2); ends = late.3 })
-  | inr (inr memory) ↦ inr memory
-]
+ends-decided (Run fill) seen file bytes result t u calm h = rows-say (Run fill) (run_of fill) file bytes _ (λ h. h) (λ j h. h) (λ a h. h) (rows-decided (run_of fill) seen file bytes result t u calm h)
+ends-decided (Implyrun fill) seen file bytes result t u calm h = rows-say (Implyrun fill) (implyrun_of fill) file bytes _ (λ h. h) (λ j h. h) (λ a h. h) (rows-decided (implyrun_of fill) seen file bytes result t u calm h)
+ends-decided (Debug fill) seen file bytes result t u calm h = rows-say (Debug fill) program_of file bytes _ (λ h. h) (λ j h. h) (λ a h. h) (debug-decided fill seen file bytes result t u calm h)
 ends-decided c seen file bytes result t u calm h = elim (whole-decided c seen file bytes result t u calm h) [
   | inl decided ↦ inl (record { answer = decided.0; decided = decided.1; ends = decided.2 })
   | inr memory ↦ inr memory

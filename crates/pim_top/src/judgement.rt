@@ -55,6 +55,14 @@ pub enum Judgement {
     NoMemory,
 }
 
+impl From<NetlistFault> for Judgement {
+    ghost from_gives = { λ fault judgement. judgement ≡ judgements.Netlist fault };
+
+    fn from(fault: NetlistFault) -> Judgement {
+        Judgement::Netlist(fault)
+    }
+}
+
 impl From<NoMemory> for Judgement {
     ghost from_gives = { λ _ judgement. judgement ≡ judgements.NoMemory };
 

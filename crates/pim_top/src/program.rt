@@ -31,8 +31,5 @@ pub(crate) fn load_program<P: Source>(alloc: Global, source: &mut P) -> Result<P
     ensures refused { IfErr result (IsUnloaded program_of (stream P.left P.faults source.old source.new)) }
 {
     let bytes = bytes_of(alloc, source, Origin::Program, Some(MAX_PROGRAM))?;
-    match program_of(alloc, bytes.as_slice()) {
-        Ok(program) => Ok(program),
-        Err(judgement) => Err(Refusal::Judged(judgement)),
-    }
+    Ok(program_of(alloc, bytes.as_slice())?)
 }

@@ -56,20 +56,14 @@ fn text_of(alloc: Global, words: Compile, bytes: &[u8]) -> Result<Vec<u8>, Judge
     ensures text { IfOk result (λ text. CompileAnswers words.target words.level words.cells bytes.now (Ok text.items)) }
     ensures refused { IfErr result (λ j. IsNoMemory j ⊎ CompileAnswers words.target words.level words.cells bytes.now (Err j)) }
 {
-    let net = match netlist::read(alloc, bytes) {
-        Ok(net) => net,
-        Err(fault) => return Err(Judgement::Netlist(fault)),
-    };
+    let net = netlist::read(alloc, bytes)?;
     let target = machine_of(words.target);
     let level = level_of(words.level);
     let program = match compile(alloc, &net, target, level, words.cells) {
         Ok(program) => program,
         Err(refusal) => return Err(Judgement::Compile(refusal)),
     };
-    match pim_file::print(alloc, &program) {
-        Ok(text) => Ok(text),
-        Err(_) => Err(Judgement::NoMemory),
-    }
+    Ok(pim_file::print(alloc, &program)?)
 }
 
 /// The machine that a word of `--target` names.

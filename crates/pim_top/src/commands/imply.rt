@@ -52,16 +52,10 @@ fn text_of(alloc: Global, words: Imply, bytes: &[u8]) -> Result<Vec<u8>, Judgeme
     ensures text { IfOk result (λ text. ImplyAnswers words.cells bytes.now (Ok text.items)) }
     ensures refused { IfErr result (λ j. IsNoMemory j ⊎ ImplyAnswers words.cells bytes.now (Err j)) }
 {
-    let net = match netlist::read(alloc, bytes) {
-        Ok(net) => net,
-        Err(fault) => return Err(Judgement::Netlist(fault)),
-    };
+    let net = netlist::read(alloc, bytes)?;
     let program = match compile_imply(alloc, &net, words.cells) {
         Ok(program) => program,
         Err(refusal) => return Err(Judgement::Imply(refusal)),
     };
-    match print_imply(alloc, &program) {
-        Ok(text) => Ok(text),
-        Err(_) => Err(Judgement::NoMemory),
-    }
+    Ok(print_imply(alloc, &program)?)
 }

@@ -62,10 +62,7 @@ fn load<P: Source>(alloc: Global, source: &mut P) -> Result<ImplyProgram, Refusa
     ensures refused { IfErr result (IsUnloaded implication_of (stream P.left P.faults source.old source.new)) }
 {
     let bytes = bytes_of(alloc, source, Origin::Program, Some(MAX_PROGRAM))?;
-    match implication_of(alloc, bytes.as_slice()) {
-        Ok(program) => Ok(program),
-        Err(judgement) => Err(Refusal::Judged(judgement)),
-    }
+    Ok(implication_of(alloc, bytes.as_slice())?)
 }
 
 /// The program of the bytes of a file, or why they are refused.

@@ -55,10 +55,7 @@ fn text_of(alloc: Global, program: &Program, input: &[u8]) -> Result<Vec<u8>, Ju
     ensures refused { IfErr result (λ j. (file : List ℕ) → program_of file ≡ Ok program.now
         → IsNoMemory j ⊎ ProveAnswers file input.now (Err j)) }
 {
-    let net = match netlist::read(alloc, input) {
-        Ok(net) => net,
-        Err(fault) => return Err(Judgement::Netlist(fault)),
-    };
+    let net = netlist::read(alloc, input)?;
     match prove(alloc, program, &net) {
         Ok(Verdict::Equal) => Ok(equal_line(alloc, &net)?),
         Ok(Verdict::Differs { vector, output }) => {
