@@ -7,9 +7,9 @@ use Rattle.std.proofs.lemmas.List.{length-take}
 use Rattle.std.proofs.lemmas.Nat.{le-div}
 use Rattle.pim_io.specs.Lines.{without_return}
 use Rattle.pim_io.specs.declared.limits.TheConstants.{MAX_INPUT}
+use Rattle.pim_lanes.specs.declared.limits.TheConstants.{LARGE_WORDS}
 use Rattle.pim_vectors.specs.Lines.{last_line, lines, lines_after}
 use Rattle.pim_batch.specs.ImplyTables.{imply_rows}
-use Rattle.pim_batch.specs.declared.limits.TheConstants.{LARGE_WORDS}
 
 -- each of these lines has so many characters
 abbrev AreOf : ℕ → List (List ℕ) → Type 0

@@ -5,8 +5,8 @@ use Rattle.pim_io.specs.declared.limits.TheConstants.{MAX_INPUT}
 use Rattle.pim_isa.specs.declared.target.Fill.{Fill}
 use Rattle.pim_imply.specs.Machines.{iresult_of}
 use Rattle.pim_imply.specs.Programs.{ImplyView}
+use Rattle.pim_lanes.specs.declared.limits.TheConstants.{LARGE_WORDS}
 use Rattle.pim_batch.specs.Runners.{Runner}
-use Rattle.pim_batch.specs.declared.limits.TheConstants.{LARGE_WORDS}
 
 -- the line that a program gives for the bits of a vector
 abbrev pub imply_line : ImplyView → Fill → List Bool → List ℕ

@@ -5,7 +5,8 @@ use Rattle.pim_io.specs.Bits.{line_of}
 use Rattle.pim_isa.specs.Programs.{ProgramView}
 use Rattle.pim_isa.specs.Results.{result_of}
 use Rattle.pim_isa.specs.declared.target.Fill.{Fill}
-use Rattle.pim_batch.specs.declared.limits.TheConstants.{MAX_LARGE, LARGE_WORDS, SMALL_WORDS}
+use Rattle.pim_lanes.specs.declared.limits.TheConstants.{MAX_LARGE, LARGE_WORDS}
+use Rattle.pim_batch.specs.declared.limits.TheConstants.{SMALL_WORDS}
 use Rattle.pim_batch.specs.Runners.{Runner}
 
 -- the line that a program gives for the bits of a vector

@@ -4,12 +4,12 @@ ghost use Rattle.pim_io.specs.Outside.{Wrote};
 ghost use Rattle.pim_vectors.specs.Tiles.{IsVector};
 ghost use Rattle.pim_batch.specs.Tables.{table, tile_rows, tile_words};
 
-use crate::limits::{LARGE_WORDS, MAX_LARGE, SMALL_WORDS};
+use crate::limits::SMALL_WORDS;
 use crate::packed::Packed;
 use crate::{Executor, lines, rows};
 use pim_io::{NoMemory, Sink, SinkFault};
 use pim_isa::{Fill, Program};
-use pim_lanes::Bank;
+use pim_lanes::{Bank, LARGE_WORDS, MAX_LARGE};
 use pim_vectors::{Stage, Tile};
 use std::alloc::Global;
 use std::marker::Model;

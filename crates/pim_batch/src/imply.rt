@@ -8,13 +8,13 @@ ghost use Rattle.pim_batch.specs.ImplyTables.{imply_rows};
 
 use crate::Executor;
 use crate::batch::{CHUNK, tile_words};
-use crate::limits::{LARGE_WORDS, SMALL_WORDS};
+use crate::limits::SMALL_WORDS;
 use crate::packed::Packed;
 use crate::passes::{Room, execute};
 use pim_imply::ImplyProgram;
 use pim_io::{MAX_INPUT, NoMemory, Sink, SinkFault};
 use pim_isa::Fill;
-use pim_lanes::Bank;
+use pim_lanes::{Bank, LARGE_WORDS};
 use pim_vectors::{Stage, Tile};
 use std::alloc::Global;
 use std::marker::Model;

@@ -11,8 +11,6 @@ mod majorities;
 mod packed;
 mod passes;
 mod rows;
-#[cfg(test)]
-mod tests;
 
 pub use batch::Batch;
 pub use executor::Executor;

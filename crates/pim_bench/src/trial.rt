@@ -11,7 +11,7 @@ use pim_adder::Rows;
 use pim_batch::{gather_results, load_vectors};
 use pim_io::NoMemory;
 use pim_isa::{Fill, Program};
-use pim_lanes::Bank;
+use pim_lanes::{Bank, LARGE_WORDS};
 use pim_text::is_text;
 use pim_vectors::Tile;
 use std::alloc::Global;
@@ -20,10 +20,7 @@ use std::marker::Model;
 /// How many rows a program is tried on.
 pub(crate) const ROWS: u32 = 262_144;
 
-/// How many words a column has: 64 rows in each.
-const WORDS: usize = 64;
-
-/// How many rows are executed together.
+/// How many rows are executed together: those of a large tile.
 const LANES: u32 = 4_096;
 
 /// How many of the rows a program of an adder of numbers of so many bits answers wrongly: each row is executed, and its answer is
@@ -86,9 +83,9 @@ impl<'a> Trial<'a> {
             program,
             drawn: Rows::new(bits),
             checked: Rows::new(bits),
-            bank: Bank::new(alloc, program.cells(), WORDS)?,
-            vectors: Tile::new(alloc, inputs, WORDS)?,
-            results: Tile::new(alloc, outputs, WORDS)?,
+            bank: Bank::new(alloc, program.cells(), LARGE_WORDS)?,
+            vectors: Tile::new(alloc, inputs, LARGE_WORDS)?,
+            results: Tile::new(alloc, outputs, LARGE_WORDS)?,
             line: vec![in alloc; 0; inputs as usize]?,
             sum: vec![in alloc; 0; outputs as usize]?,
             answer: vec![in alloc; 0; outputs as usize]?,
@@ -122,7 +119,7 @@ impl<'a> Trial<'a> {
 
 /// Packs the next rows into the lanes of a tile.
 fn pack_rows(tile: &mut Tile, rows: &mut Rows, line: &mut [u8], sum: &mut [u8])
-    requires words { tile.old.words ≡ WORDS }
+    requires words { tile.old.words ≡ LARGE_WORDS }
     requires columns { tile.old.columns ≡ 2 * rows.old.bits + 1 }
     requires line { length line.old ≡ 2 * rows.old.bits + 1 }
     requires sum { length sum.old ≡ rows.old.bits + 1 }
@@ -146,7 +143,7 @@ fn compare_rows(
     sum: &mut [u8],
     answer: &mut [u8],
 ) -> u32
-    requires words { results.now.words ≡ WORDS }
+    requires words { results.now.words ≡ LARGE_WORDS }
     requires columns { results.now.columns ≡ rows.old.bits + 1 }
     requires line { length line.old ≡ 2 * rows.old.bits + 1 }
     requires sum { length sum.old ≡ rows.old.bits + 1 }

@@ -9,8 +9,6 @@ mod reply;
 mod session;
 mod stop;
 mod stops;
-#[cfg(test)]
-mod tests;
 
 pub use bits::Bits;
 pub use fault::DebugFault;

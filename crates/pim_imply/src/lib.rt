@@ -16,8 +16,6 @@ mod printing;
 mod program;
 mod refusal;
 mod scheduling;
-#[cfg(test)]
-mod tests;
 
 pub use compiling::compile_imply;
 pub use draft::ImplyDraft;

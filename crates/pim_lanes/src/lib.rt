@@ -4,9 +4,9 @@
 mod bank;
 mod columns;
 mod kernels;
+mod limits;
 mod parts;
-#[cfg(test)]
-mod tests;
 
 pub use bank::Bank;
 pub use kernels::{nor1_into, nor2_into, ones_into, rm3_into};
+pub use limits::{LARGE_WORDS, MAX_LARGE};

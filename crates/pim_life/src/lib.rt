@@ -6,8 +6,6 @@ mod drawing;
 mod explanation;
 mod life;
 mod lifetimes;
-#[cfg(test)]
-mod tests;
 mod track;
 mod tracks;
 mod tree_fault;

@@ -16,14 +16,8 @@ use crate::values::Values;
 use pim_aig::{Aig, Lit};
 use pim_io::NoMemory;
 use pim_isa::{Fill, Port, Program};
-use pim_lanes::Bank;
+use pim_lanes::{Bank, LARGE_WORDS, MAX_LARGE};
 use std::alloc::Global;
-
-/// The most cells of a program that is executed in large tiles.
-const MAX_LARGE: u32 = 65_536;
-
-/// How many words a large tile has: 64 rows in each. A small one has a block of them.
-const LARGE_WORDS: u32 = 64;
 
 /// A vector for which a program doesn't give what a graph gives, and the first output that isn't the same.
 #[derive(Clone, Copy, Debug, PartialEq, Eq)]
@@ -69,13 +63,13 @@ fn words_of(inputs: u32) -> u32
     if inputs < 6 { 1 } else { 1 << (inputs - 6) }
 }
 
-/// How many words of vectors are executed together.
+/// How many words of vectors are executed together: those of a large tile, or a block of them for a program with many cells.
 fn tile_words(program: &Program) -> u32
     ensures few { result ≤ 64 }
     ensures some { 0 < result }
 {
     if program.cells() <= MAX_LARGE {
-        LARGE_WORDS
+        LARGE_WORDS as u32
     } else {
         BLOCK as u32
     }

@@ -6,7 +6,5 @@ mod cases;
 mod passes;
 mod reading;
 mod rewriting;
-#[cfg(test)]
-mod tests;
 
 pub use rewriting::{MAX_REWRITTEN, rewrite};

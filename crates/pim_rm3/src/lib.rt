@@ -14,13 +14,9 @@ mod refusal;
 mod role;
 mod schedule;
 mod smart_schedule;
-#[cfg(test)]
-mod smart_tests;
 mod step;
 mod taking;
 mod temporaries;
-#[cfg(test)]
-mod tests;
 mod votes;
 
 pub use cost::rm3_cost;

@@ -13,8 +13,6 @@ mod limits;
 mod lines;
 mod sizes;
 mod stage;
-#[cfg(test)]
-mod tests;
 mod tile;
 
 pub use fault::LinesFault;

@@ -6,8 +6,8 @@ use Rattle.pim_isa.specs.Programs.{ProgramView}
 use Rattle.pim_isa.specs.Results.{result_of}
 use Rattle.pim_isa.specs.declared.target.Fill.TheVariants.{Zeros}
 use Rattle.pim_lanes.specs.Banks.{BankView}
+use Rattle.pim_lanes.specs.declared.limits.TheConstants.{LARGE_WORDS}
 use Rattle.pim_vectors.specs.Tiles.{TileView, vector_of}
-use Rattle.pim_bench.specs.declared.trial.TheConstants.{WORDS}
 
 -- the row that stands so many after a row
 unfoldable pub later : ℕ → RowsView → RowsView
@@ -33,11 +33,11 @@ pub record IsTrial (p : ProgramView) (drawn checked : RowsView) (bank : BankView
   pub outputs : length p.outputs ≡ drawn.bits + 1
   pub same : checked ≡ drawn
   pub cells : bank.cells ≡ p.cells
-  pub words : bank.words ≡ WORDS
+  pub words : bank.words ≡ LARGE_WORDS
   pub vector_columns : vectors.columns ≡ length p.inputs
-  pub vector_words : vectors.words ≡ WORDS
+  pub vector_words : vectors.words ≡ LARGE_WORDS
   pub result_columns : results.columns ≡ length p.outputs
-  pub result_words : results.words ≡ WORDS
+  pub result_words : results.words ≡ LARGE_WORDS
   pub line_long : length line ≡ length p.inputs
   pub sum_long : length sum ≡ length p.outputs
   pub answer_long : length answer ≡ length p.outputs

@@ -1,6 +1,8 @@
-use crate::{DebugFault, Reply, Session, Stop};
+//! Sessions of the debugger.
+
+use crate::and::and_draft;
+use pim_debug::{DebugFault, Reply, Session, Stop};
 use pim_isa::{Fill, Program};
-use pim_samples::and_draft;
 use std::alloc::Global;
 use std::process::Abort;
 use std::test::Fail;

@@ -1,12 +1,13 @@
-ghost use Rattle.std.specs.Prelude.{◌≡◌, length, IfOk};
+//! Vectors that are executed together.
+ghost use Rattle.std.specs.Prelude.{◌≡◌, length};
 
-use crate::{Batch, Executor, ImplyBatch};
-use pim_imply::{ImplyDraft, ImplyInstr, ImplyProgram};
-use pim_io::{MemSink, NoMemory};
+use crate::and::and_draft;
+use crate::imply::imply_draft;
+use pim_batch::{Batch, Executor, ImplyBatch};
+use pim_imply::ImplyProgram;
+use pim_io::MemSink;
 use pim_isa::{Fill, Program};
-use pim_samples::and_draft;
 use pim_vectors::vector_fits;
-use std::alloc::Global;
 use std::process::Abort;
 use std::test::Fail;
 
@@ -33,22 +34,6 @@ fn a_line_is_written_for_each_vector(rt: HostRuntime) -> Result<(), Fail> {
     batch.flush(&mut sink)?;
     assert_eq!(rt; sink.bytes(), b"0\n0\n0\n1\n".as_slice());
     Ok(())
-}
-
-/// The AND of the inputs in the cells 0 and 1 as the output in cell 3.
-fn imply_draft(alloc: Global) -> Result<ImplyDraft, NoMemory>
-    ensures { IfOk result (λ draft. (length draft.inputs ≡ 2) × (length draft.outputs ≡ 1) × (length draft.instrs ≡ 5)) }
-{
-    let mut draft = ImplyDraft::new(alloc, 4);
-    draft.add_input(0, b"a")?;
-    draft.add_input(1, b"b")?;
-    draft.add_output(3, b"y")?;
-    draft.add(ImplyInstr::False(2))?;
-    draft.add(ImplyInstr::Imp { p: 1, q: 2 })?;
-    draft.add(ImplyInstr::Imp { p: 0, q: 2 })?;
-    draft.add(ImplyInstr::False(3))?;
-    draft.add(ImplyInstr::Imp { p: 2, q: 3 })?;
-    Ok(draft)
 }
 
 /// Packs a vector of two bits.

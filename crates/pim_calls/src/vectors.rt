@@ -1,5 +1,7 @@
-use crate::{Lines, LinesFault, vector_fits};
+//! Lines and vectors from a reader.
+
 use pim_io::{ReadSource, Source};
+use pim_vectors::{Lines, LinesFault, vector_fits};
 use std::process::Abort;
 use std::test::Fail;
 

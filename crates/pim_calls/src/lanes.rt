@@ -1,6 +1,8 @@
-use crate::{Bank, nor1_into, nor2_into, ones_into, rm3_into};
+//! Rows side by side, and the kernels.
+
+use crate::and::and_draft;
 use pim_isa::{Fill, Ins, Instr, Operand, Program};
-use pim_samples::and_draft;
+use pim_lanes::{Bank, nor1_into, nor2_into, ones_into, rm3_into};
 use std::test::Fail;
 
 /// Words with no pattern of their own.

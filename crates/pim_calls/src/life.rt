@@ -1,6 +1,8 @@
-use crate::{End, Life, Start, explain_tree, lives, nor_graph};
+//! Lifetimes, and whether the NORs are a tree.
+
+use crate::and::and_draft;
 use pim_isa::Program;
-use pim_samples::and_draft;
+use pim_life::{End, Life, Start, explain_tree, lives, nor_graph};
 use std::test::Fail;
 
 /// A life.

@@ -5,7 +5,7 @@ use pim_isa::{Cells, Ins, Instr, ProgramDraft, Target};
 use std::alloc::Global;
 
 /// The AND of the inputs `a` and `b` in the cells 0 and 1, as the output `y` in cell 4: an Init of the cells 2 to 4, and three NORs.
-pub fn and_draft(alloc: Global) -> Result<ProgramDraft, NoMemory>
+pub(crate) fn and_draft(alloc: Global) -> Result<ProgramDraft, NoMemory>
     ensures cells { IfOk result (λ draft. draft.cells ≡ 5) }
     ensures inputs { IfOk result (λ draft. length draft.inputs ≡ 2) }
     ensures outputs { IfOk result (λ draft. length draft.outputs ≡ 1) }
