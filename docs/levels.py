@@ -1,8 +1,8 @@
 #!/usr/bin/env python3
 """docs/levels.py BIN: makes the tables of docs/levels.md anew: the cells and the cycles of programs by target and level.
 
-It compiles the netlists of examples/ and ten larger ones, which it makes. Each program of these ten is also executed on vectors drawn
-by chance, and its outputs are compared with plain arithmetic.
+It compiles the netlists of examples/ and ten larger ones, which it makes. Each program of these ten is also executed on random
+vectors, and its outputs are compared with plain arithmetic.
 """
 import random
 import re
@@ -177,7 +177,7 @@ def size(program):
 
 
 def check(binary, name, net, function, program):
-    """Executes a program on vectors drawn by chance, and compares its outputs with what the function says."""
+    """Executes a program on random vectors, and compares its outputs with what the function says."""
     draw, vectors, wanted = random.Random(name), [], []
     for _ in range(256):
         numbers = [draw.getrandbits(len(group)) for group in net.groups.values()]

@@ -1,4 +1,4 @@
-"""The debugger: a dialogue, commands by chance against a plain model, and a long program."""
+"""The debugger: a dialogue, random commands against a plain model, and a long program."""
 import random
 import select
 import subprocess
@@ -51,8 +51,8 @@ def test_lines_behind_quit(pim, folder):
     gives(pim("debug", AND_PROGRAM, stdin=b"01\nshow\nquit\nnonsense\n"), b"0\n")
 
 
-def test_commands_by_chance(pim, folder):
-    """100,000 commands on the program of an adder, against the rows of docs/machine.md and a table of breakpoints."""
+def test_random_commands(pim, folder):
+    """100,000 random commands on the program of an adder, against the rows of docs/machine.md and a table of breakpoints."""
     text = pim("compile", "--target", "magic", "--cells", "60", stdin=(ROOT / "examples" / "adder8.aag").read_bytes()).output
     (folder / "adder.pim").write_bytes(text)
     cells, inputs, outputs, instructions = machine.parsed(text)

@@ -1,4 +1,4 @@
-"""The IMPLY machine: programs of netlists and by chance, against the machine of machine.py and the other targets, and texts with one line changed."""
+"""The IMPLY machine: programs of netlists and random ones, against the machine of machine.py and the other targets, and texts with one line changed."""
 import random
 import resource
 
@@ -23,7 +23,7 @@ def least(pim, netlist):
 
 
 def test_programs_give_what_those_of_the_other_targets_give(pim, folder):
-    """The example netlists' programs give what their MAGIC programs give, and what the machine gives from any content."""
+    """The example netlists' programs give what their MAGIC programs give, and what the machine gives from random content."""
     chance = random.Random(25)
     for name in EXAMPLES:
         netlist = (ROOT / "examples" / name).read_bytes()
@@ -54,7 +54,7 @@ def test_one_cell_too_few(pim, folder):
 
 
 def any_program(chance):
-    """A valid program by chance: inputs and outputs in any cells, inputs that are written, cells that nothing wrote."""
+    """A random valid program: inputs and outputs in any cells, inputs that are written, cells that nothing wrote."""
     cells = chance.randint(2, 12)
     inputs = chance.sample(range(cells), chance.randint(0, 2))
     outputs = [chance.randrange(cells) for _ in range(chance.randint(0, 6))]
@@ -66,8 +66,8 @@ def any_program(chance):
     return lines(["imply 1", f"cells {cells}", *ports, f"cycles {len(body)}", *body, "end"])
 
 
-def test_programs_by_chance(pim, folder):
-    """A hundred programs by chance, with both fillings, give on all vectors what the machine gives."""
+def test_random_programs(pim, folder):
+    """A hundred random programs, with both fillings, give on all vectors what the machine gives."""
     chance = random.Random(26)
     for _ in range(100):
         text = any_program(chance)

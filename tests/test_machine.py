@@ -19,7 +19,7 @@ def instruction(chance, target, cells):
 
 
 def any_program(chance, target):
-    """A valid program by chance: inputs and outputs in any cells, targets that are not primed, inputs that are written."""
+    """A random valid program: inputs and outputs in any cells, targets that are not primed, inputs that are written."""
     cells = chance.randint(5, 12)
     inputs = chance.sample(range(cells), chance.randint(0, 5))
     outputs = [chance.randrange(cells) for _ in range(chance.randint(0, 6))]
@@ -28,8 +28,8 @@ def any_program(chance, target):
     return "\n".join(["pim 1", f"target {target}", f"cells {cells}", *ports, f"cycles {len(body)}", *body, "end", ""]).encode()
 
 
-def test_programs_by_chance(pim, folder):
-    """A hundred programs by chance, of both targets and with both fillings, give on all vectors what the machine gives."""
+def test_random_programs(pim, folder):
+    """A hundred random programs, of both targets and with both fillings, give on all vectors what the machine gives."""
     chance = random.Random(1)
     for number in range(100):
         text = any_program(chance, ["magic", "plim"][number % 2])
@@ -50,7 +50,7 @@ def budgets(pim, target, netlist):
 
 
 def test_compiled_programs_from_any_content(pim, folder):
-    """Compiled programs of each level, of few cells and of many, give the same outputs from rows with any content, and these are what
+    """Compiled programs of each level, of few cells and of many, give the same outputs from rows with random content, and these are what
     `run` gives; they are primed, their inputs stand first, and they name no cell past their own."""
     chance = random.Random(2)
     for name in EXAMPLES:

@@ -51,7 +51,7 @@ def is_front(output, whole, is_session):
 
 
 def test_each_call_for_memory_is_refused(pim, folder):
-    """Whichever call is refused, there is all of the output, or a note that memory is wanted and no output; of a session its front."""
+    """Whichever call is refused, there is all of the output, or the note that it is out of memory and no output; of a session a front of it."""
     library = shim(folder)
     if library is None:
         return

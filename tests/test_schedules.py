@@ -10,7 +10,7 @@ EXAMPLES = ["and2.aag", "xor2.blif", "full_adder.aag", "gray3.blif", "compare4.b
 
 
 def any_netlist(chance):
-    """A netlist by chance, in BLIF: covers of any phase and shape over inputs and earlier covers, and outputs of any of these."""
+    """A random netlist, in BLIF: covers of any phase and shape over inputs and earlier covers, and outputs of any of these."""
     signals = [f"i{k}" for k in range(chance.randint(0, 4))]
     lines = [f".inputs {' '.join(signals)}"]
     for number in range(chance.randint(1, 9)):
@@ -51,14 +51,14 @@ def test_the_examples(pim, folder):
     all_compile(pim, [(data, target, level) for data in files for target in ("magic", "plim") for level in range(3)])
 
 
-def test_netlists_by_chance(pim, folder):
-    """A hundred and eighty netlists by chance, each for one target at one level."""
+def test_random_netlists(pim, folder):
+    """A hundred and eighty random netlists, each for one target at one level."""
     chance = random.Random(31)
     all_compile(pim, [(any_netlist(chance), ("magic", "plim")[number % 2], number // 2 % 3) for number in range(180)])
 
 
 def test_imply_programs(pim, folder):
-    """IMPLY programs of the examples and of a hundred netlists by chance, in the cells that are needed, and one cell too few."""
+    """IMPLY programs of the examples and of a hundred random netlists, in the cells that are needed, and one cell too few."""
     chance = random.Random(32)
     for data in [(ROOT / "examples" / name).read_bytes() for name in EXAMPLES] + [any_netlist(chance) for _ in range(100)]:
         netlist = netlists.read(data)

@@ -40,7 +40,7 @@ def shared_gives(pim, folder, parts, inputs, chance):
 
 
 def test_two_magic_programs_in_one_row(pim, folder):
-    """The 8-bit adder and the comparator, ten times in other turns."""
+    """The 8-bit adder and the comparator, ten times in other random turns."""
     parts = [compiled(pim, "adder8.aag", "magic", 40), compiled(pim, "compare4.blif", "magic", 16)]
     chance = random.Random(1)
     for _ in range(10):

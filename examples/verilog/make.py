@@ -60,7 +60,7 @@ def netlist(file, folder):
 
 
 def vectors(inputs):
-    """All vectors of so many inputs in order, or MOST of them by chance, always the same."""
+    """All vectors of so many inputs in order, or MOST random ones from a fixed seed."""
     if 2**inputs <= MOST:
         return [format(number, f"0{inputs}b") for number in range(2**inputs)]
     chance = random.Random(inputs)
