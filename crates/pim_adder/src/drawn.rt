@@ -4,7 +4,7 @@ ghost use Rattle.pim_adder.specs.declared.netlist.TheConstants.{MAX_BITS};
 
 use std::marker::Model;
 
-/// Rows for an adder that are drawn by chance, one after another and without an end. They take no memory.
+/// Random rows for an adder, from a fixed seed, one after another and without an end. They take no memory.
 #[derive(Debug, Drop)]
 pub struct Rows {
     bits: u32,

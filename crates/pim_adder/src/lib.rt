@@ -1,4 +1,4 @@
-//! An adder to measure by: its netlist, and rows that are drawn by chance with the sums that are right.
+//! An adder to measure by: its netlist, and random rows with the sums that are right.
 #![tactic(auto)]
 
 mod drawn;

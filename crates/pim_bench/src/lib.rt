@@ -1,4 +1,4 @@
-//! What `bench` writes: an adder is compiled three times, and each program is tried on rows that are drawn by chance.
+//! What `bench` writes: an adder is compiled three times, and each program is tried on random rows.
 #![tactic(auto)]
 
 mod compiled;

@@ -1,7 +1,7 @@
 //! Graphs and ports by numbers, for tests: a number that isn't there fails the test.
 
 use pim_aig::{Aig, Lit, MAX_ANDS, MAX_INPUTS, MAX_OUTPUTS};
-use pim_isa::{Instr, Operand, Ports, Program};
+use pim_isa::Ports;
 use pim_mig::{MAX_NODES, Mig};
 use std::alloc::Global;
 use std::test::Fail;
@@ -82,29 +82,4 @@ pub(crate) fn ports_of(alloc: Global, inputs: u32, outputs: usize) -> Result<Por
         ports.add_output(b"o")?;
     }
     Ok(ports)
-}
-
-/// Whether a program has so many cells and exactly these instructions of PLiM.
-pub(crate) fn is_of(program: &Program, cells: u32, instrs: &[(Operand, Operand, u32)]) -> bool {
-    if program.cells() != cells || program.instrs().len() != instrs.len() {
-        return false;
-    }
-    for (instr, (p, q, z)) in program.instrs().iter().zip(instrs) {
-        if !is_rm3(instr, *p, *q, *z) {
-            return false;
-        }
-    }
-    true
-}
-
-/// Whether an instruction is this one.
-fn is_rm3(instr: &Instr, p: Operand, q: Operand, z: u32) -> bool {
-    match instr {
-        Instr::Rm3 {
-            p: has_p,
-            q: has_q,
-            z: has_z,
-        } => *has_p == p && *has_q == q && *has_z == z,
-        _ => false,
-    }
 }

@@ -1,8 +1,8 @@
 //! The schedules for PLiM.
 
-use crate::graphs::{aig_of, is_of, mig_of, ports_of};
+use crate::graphs::{aig_of, mig_of, ports_of};
 use pim_aig::Aig;
-use pim_isa::{MAX_CELLS, Operand, Program};
+use pim_isa::{Instr, MAX_CELLS, Operand, Program};
 use pim_mig::Mig;
 use pim_rm3::{Refusal, SmartFault, base, smart};
 use std::alloc::Global;
@@ -30,6 +30,31 @@ fn smart_in(alloc: Global, mig: &Mig, budget: u32) -> Result<Result<Program, Sma
         return Ok(smart(alloc, mig, &ports, budget));
     }
     Err("no such ports")?
+}
+
+/// Whether a program has so many cells and exactly these instructions of PLiM.
+fn is_of(program: &Program, cells: u32, instrs: &[(Operand, Operand, u32)]) -> bool {
+    if program.cells() != cells || program.instrs().len() != instrs.len() {
+        return false;
+    }
+    for (instr, (p, q, z)) in program.instrs().iter().zip(instrs) {
+        if !is_rm3(instr, *p, *q, *z) {
+            return false;
+        }
+    }
+    true
+}
+
+/// Whether an instruction is this one.
+fn is_rm3(instr: &Instr, p: Operand, q: Operand, z: u32) -> bool {
+    match instr {
+        Instr::Rm3 {
+            p: has_p,
+            q: has_q,
+            z: has_z,
+        } => *has_p == p && *has_q == q && *has_z == z,
+        _ => false,
+    }
 }
 
 /// A chain of ANDs: each takes over the cell of the one before it, so that fewer cells do than the note names.

@@ -47,7 +47,7 @@ fn mark(marks: &mut Vec<bool>, gate: u32) -> u32
     1
 }
 
-/// Marks what a gate reads, and tells how many marks that makes more among gates each of which it reads stands once.
+/// Marks what a gate reads, and tells how many more gates of a list are marked then, if each of these stands in it once.
 fn mark_reads(marks: &mut Vec<bool>, children: &[u32]) -> u32
     requires there { All (λ c. c < vec_len marks.old) children.now }
     requires few { length children.now ≤ 4 }
@@ -65,7 +65,7 @@ fn mark_reads(marks: &mut Vec<bool>, children: &[u32]) -> u32
 }
 
 /// The greatest number of gates that an order holds at once: at each place the gate there, and each earlier one that is
-/// a root or is read by the gate there or a later one. Linear in the order and what its gates read.
+/// a root or is read by the gate there or a later one. Linear in the gates, and in the order and what its gates read.
 pub fn peak(alloc: Global, graph: &Graph, order: &[u32]) -> Result<u32, NoMemory>
     requires { IsPlaced graph.now order.now }
     ensures peak { IfOk result (λ most. most ≡ peak graph.now order.now) }

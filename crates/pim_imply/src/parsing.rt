@@ -1,10 +1,10 @@
 ghost use Rattle.std.specs.Prelude.{◌≡◌, ◌↔◌, ◌≤◌, length, Ok, IfOk};
 ghost use Rattle.pim_io.specs.Readings.{Gives};
 ghost use Rattle.pim_imply.specs.Programs.{ImplyView};
-ghost use Rattle.pim_imply.specs.Reading.{draft_of, imply_of};
+ghost use Rattle.pim_imply.specs.Reading.{draft_of, imply_of, imply_parts};
 ghost use Rattle.pim_imply.specs.Spelled.{HasText};
 ghost use Rattle.pim_imply.specs.Text.{text as text_of};
-ghost use Rattle.pim_imply.specs.inner.Bodies.{HasFewParts};
+ghost use Rattle.pim_text.specs.Parts.{HasFewParts};
 
 use crate::draft::ImplyDraft;
 use crate::fault::ImplyFault;
@@ -45,7 +45,7 @@ fn validated(alloc: Global, bytes: &[u8]) -> Result<ImplyProgram, ImplyFault>
 fn draft(alloc: Global, bytes: &[u8]) -> Result<ImplyDraft, ImplyFault>
     requires { length bytes.now ≤ MAX_PROGRAM }
     ensures exact { Gives ImplyFault.NoMemory (λ draft. draft) result (draft_of bytes.now) }
-    ensures few { IfOk result HasFewParts }
+    ensures few { IfOk result (λ draft. HasFewParts (imply_parts draft)) }
 {
     Ok(read_draft::<ImplyDraft>(alloc, bytes)?)
 }

@@ -14,7 +14,7 @@ use pim_isa::{Ins, Instr, Port, Program, Target};
 use std::alloc::Global;
 
 /// A graph has fewer gates than this.
-const MAX_GATES: u32 = 268_435_455;
+const MAX_GATES: u32 = 268_435_456;
 
 /// The graph of a MAGIC program's NORs: a gate for each, in order. It reads the NORs that wrote its operands' cells last, and the roots
 /// are those that wrote the outputs' cells last. Linear in the cells and in those that the instructions name.

@@ -172,18 +172,11 @@ fn put_takes(over: &mut Vec<Option<u32>>, step: Step, literal: u32) -> Result<()
     requires below { StepsBelow literal step }
     ensures { OnOk result (over.new.items ≡ over.old.items ++ (temporary_takes (temporary_of step) ++ step_takes step ∷ [])) }
 {
-    let takes = step_takes(step, literal);
-    match temporary_of(step) {
-        Some(_) => {
-            over.push(None)?;
-            over.push(takes)?;
-            Ok(())
-        }
-        None => {
-            over.push(takes)?;
-            Ok(())
-        }
+    if temporary_of(step).is_some() {
+        over.push(None)?;
     }
+    over.push(step_takes(step, literal))?;
+    Ok(())
 }
 
 /// For each gate of the full order the gate whose cell it takes over, if it takes one over.

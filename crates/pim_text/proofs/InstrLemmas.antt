@@ -15,7 +15,8 @@ use Rattle.pim_text.specs.Fields.{fields, behind, plain_number, lacks}
 use Rattle.pim_text.specs.InstrForms.{cell_at, cells_of, marked_of, marked_at, operand_of, operand_at, closed, init_of, not_of, nor_from_two, nor_from_three, nor_of, rm3_of, instr_of_words, instr_of}
 use Rattle.pim_text.specs.Spelled.{AreSpelled, IsSpelledOperand, HasLine}
 use Rattle.pim_text.specs.Text.{operand_text, nor_text, instr_text, nor_words, instr_words}
-use Rattle.pim_text.proofs.LineLemmas.{bind_some, some_is, behind_is, mapped}
+use Rattle.pim_text.proofs.LineLemmas.{behind_is}
+use Rattle.pim_text.proofs.OptionLemmas.{bind_some, mapped, some_is}
 use Rattle.pim_text.proofs.NumberLemmas.{plain_number-decimal, word_is_decimal}
 use Rattle.pim_text.proofs.FieldLemmas.{lacks-decimal, fields-word, fields-only, fields-numbers, join-fields, join-numbers, cells_of-decimal, fields_are_decimal}
 

@@ -20,27 +20,7 @@ use Rattle.pim_text.specs.Text.{target_word, target_line, port_line}
 use Rattle.pim_text.proofs.LabelLemmas.{label_test, is_label-from_IsLabel}
 use Rattle.pim_text.proofs.NumberLemmas.{plain_number-decimal, word_is_decimal}
 use Rattle.pim_text.proofs.FieldLemmas.{lacks-decimal, fields_cut, join-fields}
-
--- options, one after another
-
-abbrev there : {A : Type 0} → A → Option A
-there x = Some x
-
-pub some_is : {A : Type 0} (x y : A) → there x ≡ there y → x ≡ y
-some_is x y e = cc
-
-pub bind_some : {A B : Type 0} (o : Option A) (f : A → Option B) (y : B) → option_and_then f o ≡ Some y → (x : A) × (o ≡ Some x) × (f x ≡ Some y)
-bind_some None f y e = absurd cc
-bind_some (Some x) f y e = (x, refl, e)
-
-pub mapped : {A B : Type 0} (f : A → B) (o : Option A) (y : B) → option_map f o ≡ Some y → (x : A) × (o ≡ Some x) × (f x ≡ y)
-mapped f None y e = absurd cc
-mapped f (Some x) y e = (x, refl, some_is (f x) y e)
-
--- the first of two options, or the second
-pub or_is : {A : Type 0} (a b : Option A) (y : A) → option_or a b ≡ Some y → (a ≡ Some y) ⊎ (b ≡ Some y)
-or_is None b y e = inr e
-or_is (Some x) b y e = inl e
+use Rattle.pim_text.proofs.OptionLemmas.{bind_some, mapped, or_is, some_is}
 
 -- fronts
 

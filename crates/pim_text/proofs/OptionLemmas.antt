@@ -1,13 +1,17 @@
 -- Options and results, one after another.
 use Rattle.std.proofs.Common.{◌≡◌, Bool, true, false, cond, ◌||◌, Option, Some, None, Result, Ok, Err, refl, ap, ◌⊎◌, inl, inr}
-use Rattle.std.specs.Option.{option_map, option_or, ok_or}
+use Rattle.std.specs.Option.{option_map, option_and_then, option_or, ok_or}
 use Rattle.pim_io.specs.Readings.{◌>>=◌}
 
 abbrev there : {A : Type 0} → A → Option A
 there x = Some x
 
-some_is : {A : Type 0} (x y : A) → there x ≡ there y → x ≡ y
+pub some_is : {A : Type 0} (x y : A) → there x ≡ there y → x ≡ y
 some_is x y e = cc
+
+pub bind_some : {A B : Type 0} (o : Option A) (f : A → Option B) (y : B) → option_and_then f o ≡ Some y → (x : A) × (o ≡ Some x) × (f x ≡ Some y)
+bind_some None f y e = absurd cc
+bind_some (Some x) f y e = (x, refl, e)
 
 pub mapped : {A B : Type 0} (f : A → B) (o : Option A) (y : B) → option_map f o ≡ Some y → (x : A) × (o ≡ Some x) × (f x ≡ y)
 mapped f None y e = absurd cc

@@ -9,6 +9,7 @@ use Rattle.pim_compile.specs.declared.refusal.Refusal.TheVariants as compiler
 use Rattle.pim_file.specs.declared.fault.FileFault.TheVariants as file
 use Rattle.pim_io.specs.Bits.{line_of}
 use Rattle.pim_io.specs.Words.{number_of}
+use Rattle.pim_isa.specs.declared.draft.TheConstants as row
 use Rattle.pim_isa.specs.declared.invalid.Invalid.TheVariants as invalid
 use Rattle.pim_imply.specs.declared.fault.ImplyFault.TheVariants as imply_file
 use Rattle.pim_imply.specs.declared.invalid.ImplyInvalid.TheVariants as imply_invalid
@@ -31,6 +32,7 @@ use Rattle.pim_top.specs.declared.netlist.NetlistFault.TheVariants.{Aiger, Blif}
 use Rattle.pim_top.specs.declared.refusal.Origin.TheVariants as origin
 use Rattle.pim_top.specs.declared.refusal.Refusal.TheVariants as refusal
 use Rattle.pim_top.specs.declared.status.Status.TheVariants as status
+use Rattle.pim_words.specs.declared.limits.TheConstants as words
 
 abbrev judged : Judgement → List ℕ
 judged j = refusal_note (refusal.Judged j)
@@ -270,3 +272,7 @@ three_turns = refl
 no_second_turn : turns_of (codes "0\n1 2\n3") ≡ Err (judgement.Turn 2)
 unfolding number_of
 no_second_turn = refl
+
+-- ---- the most that `--cells` may say is what a row has
+same_cells : words.MAX_CELLS ≡ row.MAX_CELLS
+same_cells = refl

@@ -42,6 +42,10 @@ most : command_said (compile_words Magic (codes "1048576")) ≡ Some (commands.C
 unfolding clap_on_literals
 most = refl
 
+most_taken : is_usage (compile_words Magic (codes "1048576")) ≡ false
+unfolding clap_on_literals
+most_taken = refl
+
 other_order : List Text
 other_order = codes "compile" ∷ codes "--cells=5" ∷ codes "--target" ∷ codes "magic" ∷ []
 

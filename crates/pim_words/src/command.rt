@@ -92,7 +92,7 @@ pub enum Command {
         /// The value of `--cells`: how many cells the program may use, at most `MAX_CELLS`.
         cells: u32,
     },
-    /// `bench`: programs of an adder are executed on rows that are drawn by chance.
+    /// `bench`: programs of an adder are executed on random rows.
     Bench {
         /// How many bits each number has, from 1 to 64.
         bits: u32,

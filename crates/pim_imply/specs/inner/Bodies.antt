@@ -1,8 +1,8 @@
 -- Inner: a draft and a program of the IMPLY machine are kept as the ports and cells of a program without instructions, and a list.
-use Rattle.std.specs.Prelude.{◌≡◌, ◌+◌, ◌≤◌, List, [], length, None}
+use Rattle.std.specs.Prelude.{◌≡◌, ◌≤◌, List, [], length, None}
 use Rattle.pim_isa.specs.Programs.{ProgramView}
 use Rattle.pim_isa.specs.Sound.{IsProgram}
-use Rattle.pim_isa.specs.declared.draft.TheConstants.{MAX_INSTRS, MAX_PORTS}
+use Rattle.pim_isa.specs.declared.draft.TheConstants.{MAX_INSTRS}
 use Rattle.pim_isa.specs.declared.target.Target.TheVariants.{Plim}
 use Rattle.pim_imply.specs.declared.instr.ImplyInstr.{ImplyInstr}
 use Rattle.pim_imply.specs.Programs.{ImplyView}
@@ -23,8 +23,3 @@ pub record IsImply (body : ProgramView) (instrs : List ImplyInstr) : Type 0 wher
   pub bare : IsBody body
   pub few : length instrs ≤ MAX_INSTRS
   pub faultless : fault_of (with_body body instrs) ≡ None
-
--- a draft of no more ports and instructions than a program may have
-pub record HasFewParts (draft : ImplyView) : Type 0 where
-  pub ports : length draft.inputs + length draft.outputs ≤ MAX_PORTS
-  pub instrs : length draft.instrs ≤ MAX_INSTRS

@@ -1,4 +1,4 @@
-//! `bench`: an adder becomes three programs, and what they gave for rows that are drawn by chance.
+//! `bench`: an adder becomes three programs, and what they gave for random rows.
 ghost use Rattle.std.specs.Prelude.{◌<◌, ◌≤◌};
 ghost use Rattle.pim_adder.specs.declared.netlist.TheConstants.{MAX_BITS};
 ghost use Rattle.pim_words.specs.declared.command.Command.TheVariants as commands;
@@ -34,10 +34,7 @@ impl WholeText for Bench {
     }
 
     fn text(&self, alloc: Global, _opened: (), _input: &[u8]) -> Result<Vec<u8>, Judgement> {
-        match measured(alloc, self.bits) {
-            Ok(text) => Ok(text),
-            Err(_) => Err(Judgement::NoMemory),
-        }
+        Ok(measured(alloc, self.bits)?)
     }
 
     fn tell_fine(&self) {}

@@ -13,7 +13,7 @@ pub record HasNumber (name : Text) (low high : ℕ) (m : ArgMatches) : Type 0 wh
   pub least : low ≤ digits_value 10 (without_leading_plus text)
   pub most : digits_value 10 (without_leading_plus text) ≤ high
 
--- there is a number after `--cells`, at most those of a whole row
+-- there is a number after `--cells`, at most the cells of a whole row
 abbrev pub HasCells : ArgMatches → Type 0
 HasCells = HasNumber (codes "cells") 0 MAX_CELLS
 
