@@ -83,4 +83,5 @@ ratio run-long lanes64-long
 ratio compile schedule
 ratio compile-small schedule-small
 ratio compile compile-small
+ratio schedule schedule-small
 ratio plim plim-small
