@@ -1,6 +1,7 @@
 ghost use Rattle.std.specs.Prelude.{◌≡◌, ◌+◌, ◌*◌, ◌<◌, ◌≤◌, ◌++◌, [], length, map, IfOk, OnOk};
 ghost use Rattle.std.specs.List.{flat_map, range_with_len};
 ghost use Rattle.pim_net.specs.Netlist.{draft_of};
+ghost use Rattle.pim_net.specs.WellFormed.{IsNet};
 ghost use Rattle.pim_adder.specs.Adders.{adder, bit_equations, carry_equation, numbered, plain, sum, sum_equation};
 
 use pim_io::NoMemory;
@@ -14,7 +15,8 @@ pub const MAX_BITS: u32 = 64;
 pub fn adder(alloc: Global, bits: u32) -> Result<Net, NoMemory>
     requires some { 0 < bits }
     requires few { bits ≤ MAX_BITS }
-    ensures { IfOk result (λ net. draft_of net ≡ adder bits) }
+    ensures exact { IfOk result (λ net. draft_of net ≡ adder bits) }
+    ensures checked { IfOk result IsNet }
 {
     let mut draft = Draft::new(alloc);
     add_inputs(alloc, &mut draft, b'a', 0, bits)?;

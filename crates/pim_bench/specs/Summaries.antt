@@ -13,6 +13,7 @@ use Rattle.pim_isa.specs.Writes.{nor_places}
 use Rattle.pim_isa.specs.declared.target.Target.{Target}
 use Rattle.pim_isa.specs.declared.target.Target.TheVariants.{Magic, Plim}
 use Rattle.pim_net.specs.Netlist.{NetView, draft_of}
+use Rattle.pim_net.specs.WellFormed.{IsNet}
 use Rattle.pim_simpler.specs.Batching.{Batched}
 use Rattle.pim_bench.specs.Trials.{wrong_of}
 use Rattle.pim_bench.specs.declared.measuring.TheConstants.{WIDE_CELLS}
@@ -52,6 +53,7 @@ summary bits wide tight plim = head_line bits
 -- those that it needs
 pub record IsSummary (bits : ℕ) (text : List ℕ) : Type 0 where
   pub net : NetView
+  pub checked : IsNet net
   pub is_adder : draft_of net ≡ adder bits
   pub wide : ProgramView
   pub is_wide : IsCompiled net Magic WIDE_CELLS wide

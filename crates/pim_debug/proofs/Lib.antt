@@ -1,2 +1,3 @@
+mod Examples
 pub mod HistoryLemmas
 pub mod StopLemmas

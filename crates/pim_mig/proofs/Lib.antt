@@ -1,3 +1,4 @@
+mod Examples
 pub mod Values
 pub mod Keys
 pub mod Answers

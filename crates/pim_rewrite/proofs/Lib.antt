@@ -1,3 +1,4 @@
+mod Examples
 pub mod Frame
 pub mod Values
 pub mod Views

@@ -1,3 +1,4 @@
+mod Examples
 pub mod Moves
 pub mod Frames
 pub mod Laying

@@ -11,7 +11,8 @@ returns c =
     let plim = c.in_ok-plim.plim in
     record {
       net = net;
-      is_adder = c.in_ok-net.ensures;
+      checked = c.in_ok-net.ensures.checked;
+      is_adder = c.in_ok-net.ensures.exact;
       wide = c.in_ok-wide.wide;
       is_wide = c.in_ok-wide.ensures.compiled;
       tight = tight;
