@@ -163,6 +163,11 @@ over-next longest bytes left front l h said = elim (finds-next l (rest_of l left
   | inr (inr f) ↦ absurd (let a = f.answer in let z : ⊥ = cc in z)
 ]
 
+-- what is left of nothing is nothing
+pub rest-nil : (held rest : List ℕ) → held ++ rest ≡ [] → rest ≡ []
+rest-nil [] rest e = e
+rest-nil (b ∷ held) rest e = cc
+
 pub none-next : (longest : ℕ) (bytes left front : List ℕ) (l : LinesView) → IsAtLine longest bytes left l front → Says l left (Ok None) →
     (judged_lines longest bytes ≡ lines front) × (behind_lines bytes ≡ None) × (rest_of l left ≡ [])
 none-next longest bytes left front l h said = elim (finds-next l (rest_of l left)) [

@@ -20,7 +20,7 @@ use Rattle.pim_top.specs.declared.refusal.Refusal.{Refusal}
 use Rattle.pim_top.specs.declared.refusal.Refusal.TheVariants as refusal
 use Rattle.pim_top.specs.inner.Standing.{IsEnd, IsRefusedHere, IsWalk, Stops, TakesUp, lines_refusal}
 use Rattle.pim_top.proofs.Told.{told-both, told-map}
-use Rattle.pim_top.proofs.LineStates.{Says, halts-next, judged-front, line-more, line-next, long-next, many-next, none-next, over-next}
+use Rattle.pim_top.proofs.LineStates.{Says, halts-next, judged-front, line-more, line-next, long-next, many-next, none-next, over-next, rest-nil}
 
 -- ---- what is judged of all bytes, by the lines that were handed out and those behind them
 refusal-here : (width : ℕ) (bytes left front : List ℕ) (l : LinesView) (more : List (List ℕ)) → IsWalk width bytes left l front → judged_lines width bytes ≡ lines front ++ more → input_refusal width bytes ≡ first_refusal width l.given (behind_lines bytes) more
@@ -164,10 +164,6 @@ end-told a b width old new rows after said =
     let w = no-line width bytes left front old h s in
     (record { all = rest-nil new.held rest (r ∙ w.0); fine = w.1; fits = w.2 }, refl))
     said after.rest
-  where
-    rest-nil : (held rest : List ℕ) → held ++ rest ≡ [] → rest ≡ []
-    rest-nil [] rest e = e
-    rest-nil (b ∷ held) rest e = cc
 
 pub unfit-told : (a b : Option (List ℕ)) (width : ℕ) (old : LinesView) (line : List ℕ) (n : ℕ) → Told a b (λ left rest. next_of old (old.held ++ left) ≡ Ok (Some line)) → is_vector width line ≡ false → n ≡ old.given + 1 →
     Told a b (λ left rest. (bytes front : List ℕ) → IsWalk width bytes left old front → IsRefusedHere width bytes front (refusal.Judged (judgement.Vector n)))

@@ -97,6 +97,11 @@ pub record DebuggedAll (p : ProgramView) (fill : Fill) (bytes : List ℕ) (befor
   pub ran : RanAll p fill bytes text ended
   pub took : TookAll before now text
 
+-- the same, and the lines were read to their end: to the one that is to quit, or until nothing of the input was left
+pub record DebuggedDone (p : ProgramView) (fill : Fill) (bytes rest : List ℕ) (before now : Option (List ℕ)) : Type 0 where
+  pub all : DebuggedAll p fill bytes before now None
+  pub read : all.ran.more ≡ [] → rest ≡ []
+
 -- it took all that is written for the first lines
 pub record DebuggedFront (p : ProgramView) (fill : Fill) (bytes : List ℕ) (before now : Option (List ℕ)) : Type 0 where
   pub text : List ℕ

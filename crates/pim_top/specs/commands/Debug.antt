@@ -5,7 +5,7 @@ use Rattle.pim_io.specs.declared.limits.TheConstants.{MAX_PROGRAM}
 use Rattle.pim_isa.specs.Programs.{ProgramView}
 use Rattle.pim_isa.specs.declared.target.Fill.{Fill}
 use Rattle.pim_words.specs.declared.command.FillWord.{FillWord}
-use Rattle.pim_top.specs.Debugging.{DebuggedAll, DebuggedFront, DebuggedPart, DebuggedShort, RanAll}
+use Rattle.pim_top.specs.Debugging.{DebuggedAll, DebuggedDone, DebuggedFront, DebuggedPart, DebuggedShort, RanAll}
 use Rattle.pim_top.specs.Programs.{program_of}
 use Rattle.pim_top.specs.Rows.{EndsEarly, IsLoaded}
 use Rattle.pim_top.specs.Streams.{AreSteady, IsUnread, IsUnwritten, Seen, Stream}
@@ -15,20 +15,20 @@ use Rattle.pim_top.specs.declared.refusal.Origin.TheVariants.{Input}
 use Rattle.pim_top.specs.declared.refusal.Refusal.{Refusal}
 use Rattle.pim_top.specs.declared.refusal.Refusal.TheVariants.{Judged, NoMemory, ReadFault, TooLong, WriteFault}
 
--- the lines came to their end, for this reason, and no count of faults rose
-abbrev pub IsEnded : ProgramView → Fill → Stream → Stream → Option Refusal → Type 0
-IsEnded p fill i o ended = AreSteady i o (λ bytes rest. DebuggedAll p fill bytes o.before o.now ended)
+-- the lines were refused for this reason, and no count of faults rose
+abbrev pub IsStopped : ProgramView → Fill → Stream → Stream → Refusal → Type 0
+IsStopped p fill i o r = AreSteady i o (λ bytes rest. DebuggedAll p fill bytes o.before o.now (Some r))
 
 -- how the lines of a program that was loaded end
 abbrev pub LinesEnd : {Y : Type 0} → ProgramView → Fill → Stream → Stream → Result Y Refusal → Type 0
-LinesEnd p fill i o (Ok y) = IsEnded p fill i o None
+LinesEnd p fill i o (Ok y) = AreSteady i o (λ bytes rest. DebuggedDone p fill bytes rest o.before o.now)
 LinesEnd p fill i o (Err (ReadFault Input)) = IsUnread i o (λ bytes rest. DebuggedShort p fill bytes rest o.before o.now)
 LinesEnd p fill i o (Err WriteFault) = IsUnwritten i o (λ bytes rest. DebuggedPart p fill bytes o.before o.now)
 LinesEnd p fill i o (Err NoMemory) = AreSteady i o (λ bytes rest. DebuggedFront p fill bytes o.before o.now)
-LinesEnd p fill i o (Err (TooLong Input)) = IsEnded p fill i o (Some (TooLong Input))
-LinesEnd p fill i o (Err (Judged (Vector n))) = IsEnded p fill i o (Some (Judged (Vector n)))
-LinesEnd p fill i o (Err (Judged TooManyLines)) = IsEnded p fill i o (Some (Judged TooManyLines))
-LinesEnd p fill i o (Err (Judged (Command n fault))) = IsEnded p fill i o (Some (Judged (Command n fault)))
+LinesEnd p fill i o (Err (TooLong Input)) = IsStopped p fill i o (TooLong Input)
+LinesEnd p fill i o (Err (Judged (Vector n))) = IsStopped p fill i o (Judged (Vector n))
+LinesEnd p fill i o (Err (Judged TooManyLines)) = IsStopped p fill i o (Judged TooManyLines)
+LinesEnd p fill i o (Err (Judged (Command n fault))) = IsStopped p fill i o (Judged (Command n fault))
 LinesEnd p fill i o (Err r) = ⊥
 
 -- the program was loaded, and the lines of the input ended so

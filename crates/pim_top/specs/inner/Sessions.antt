@@ -12,7 +12,7 @@ use Rattle.pim_vectors.specs.Lines.{lines}
 use Rattle.pim_vectors.specs.Next.{LinesView}
 use Rattle.pim_vectors.specs.declared.fault.LinesFault.{LinesFault}
 use Rattle.pim_vectors.specs.declared.fault.LinesFault.TheVariants as fault
-use Rattle.pim_top.specs.Debugging.{DebuggedAll, DebuggedFront, DebuggedPart, DebuggedShort, Runs, longest_of}
+use Rattle.pim_top.specs.Debugging.{DebuggedAll, DebuggedDone, DebuggedFront, DebuggedPart, DebuggedShort, Runs, longest_of}
 use Rattle.pim_top.specs.declared.judgement.Judgement.TheVariants as judgement
 use Rattle.pim_top.specs.declared.refusal.Origin.TheVariants as origin
 use Rattle.pim_top.specs.declared.refusal.Refusal.{Refusal}
@@ -27,10 +27,10 @@ pub record IsDebugging (p : ProgramView) (fill : Fill) (bytes rest : List ℕ) (
   pub runs : Runs p fill 0 None (lines front) text session
   pub took : TookAll before now text
 
--- how it goes on: there may be more lines, or it is to end
+-- how it goes on: there may be more lines, or the lines were read to their end
 abbrev pub DebugsOn : Bool → ProgramView → Fill → List ℕ → List ℕ → Option (List ℕ) → Option (List ℕ) → LinesView → Option SessionView → Type 0
 DebugsOn true p fill bytes rest before now l session = IsDebugging p fill bytes rest before now l session
-DebugsOn false p fill bytes rest before now l session = DebuggedAll p fill bytes before now None
+DebugsOn false p fill bytes rest before now l session = DebuggedDone p fill bytes rest before now
 
 -- what the bytes say of a refusal
 abbrev pub DebugStops : ProgramView → Fill → List ℕ → List ℕ → Option (List ℕ) → Option (List ℕ) → Refusal → Type 0

@@ -5,7 +5,7 @@ ghost use Rattle.pim_io.specs.Outside.{Told, TookAll};
 ghost use Rattle.pim_isa.specs.declared.target.Fill.{Fill};
 ghost use Rattle.pim_words.specs.declared.command.Command.TheVariants as commands;
 ghost use Rattle.pim_debug.specs.States.{SessionView};
-ghost use Rattle.pim_top.specs.Debugging.{DebuggedAll, longest_of, session_of};
+ghost use Rattle.pim_top.specs.Debugging.{DebuggedDone, longest_of, session_of};
 ghost use Rattle.pim_top.specs.Judged.{is_vector};
 ghost use Rattle.pim_top.specs.Streams.{seen, stream};
 ghost use Rattle.pim_top.specs.commands.Debug.{DebugEnds};
@@ -141,7 +141,7 @@ fn obey_lines<S: Source, K: Sink>(
     requires { lines.old.longest ≡ longest_of session.old.program }
     ensures done { OnOk result (Told (S.left input.old) (S.left input.new) (λ left rest. (fill : Fill) (bytes : List ℕ) (before : Option (List ℕ)) →
         IsDebugging session.old.program fill bytes left before (K.taken output.old) lines.old (Some session.old) →
-        DebuggedAll session.old.program fill bytes before (K.taken output.new) None)) }
+        DebuggedDone session.old.program fill bytes rest before (K.taken output.new))) }
     ensures refused { IfErr result (λ r. Told (S.left input.old) (S.left input.new) (λ left rest. (fill : Fill) (bytes : List ℕ) (before : Option (List ℕ)) →
         IsDebugging session.old.program fill bytes left before (K.taken output.old) lines.old (Some session.old) →
         DebugStops session.old.program fill bytes rest before (K.taken output.new) r)) }

@@ -9,9 +9,9 @@ use Rattle.pim_top.specs.Calls.{IsCalm}
 use Rattle.pim_top.specs.Programs.{program_of}
 use Rattle.pim_top.specs.Reads.{OfBytes, Tells}
 use Rattle.pim_top.specs.Statuses.{answer_status, refusal_status}
-use Rattle.pim_top.specs.Debugging.{DebuggedAll}
+use Rattle.pim_top.specs.Debugging.{DebuggedAll, DebuggedDone}
 use Rattle.pim_top.specs.Streams.{Seen, Stream}
-use Rattle.pim_top.specs.commands.Debug.{DebugDecides, DebugEnds, IsEnded, LinesEnd, ended_as}
+use Rattle.pim_top.specs.commands.Debug.{DebugDecides, DebugEnds, LinesEnd, ended_as}
 use Rattle.pim_top.specs.commands.Run.{fill_of}
 use Rattle.pim_top.specs.declared.judgement.Judgement.TheVariants as judgement
 use Rattle.pim_top.specs.declared.refusal.Origin.TheVariants as origin
@@ -30,11 +30,11 @@ debug-done fill seen y Q make h =
     let file = h.loaded.file in
     let p = h.program in
     of-bytes (Some MAX_PROGRAM) seen.program file (λ file. Told seen.input.before seen.input.now (λ input rest. Told seen.output.before seen.output.now (λ before after. Q file input before after))) h.loaded.read
-    (told-map seen.input.before seen.input.now (λ bytes rest. DebuggedAll p (fill_of fill) bytes seen.output.before seen.output.now None) (λ bytes rest. Told seen.output.before seen.output.now (λ before after. Q file bytes before after))
+    (told-map seen.input.before seen.input.now (λ bytes rest. DebuggedDone p (fill_of fill) bytes rest seen.output.before seen.output.now) (λ bytes rest. Told seen.output.before seen.output.now (λ before after. Q file bytes before after))
     (λ bytes rest d.
-    told-map seen.output.before seen.output.now (λ before after. after ≡ before ++ d.text) (λ before after. Q file bytes before after)
-    (λ before after e. make file bytes before after d.text e h.loaded.read.fits (record { program = p; loaded = h.loaded.is; text = d.text; ended = None; ran = d.ran; is = refl }))
-    d.took)
+    told-map seen.output.before seen.output.now (λ before after. after ≡ before ++ d.all.text) (λ before after. Q file bytes before after)
+    (λ before after e. make file bytes before after d.all.text e h.loaded.read.fits (record { program = p; loaded = h.loaded.is; text = d.all.text; ended = None; ran = d.all.ran; is = refl }))
+    d.all.took)
     h.lines.ran)
 
 pub debug-steady : {Y : Type 0} (fill : FillWord) (seen : Seen) (y : Y) → DebugEnds fill seen (Ok y) → (seen.program.faults_now ≡ seen.program.faults) × (seen.input.faults_now ≡ seen.input.faults) × (seen.output.faults_now ≡ seen.output.faults)
@@ -98,9 +98,9 @@ abbrev LateSays : FillWord → List ℕ → List ℕ → Status → Type 0
 LateSays fill file input s = ((answer : Result (List ℕ) Refusal) × (length file ≤ MAX_PROGRAM) × DebugDecides fill file input answer × (s ≡ answer_status answer)) ⊎ (s ≡ status.NoMemory)
 
 ended-decided : (fill : FillWord) (file input : List ℕ) (p : ProgramView) (i o : Stream) (ended : Option Refusal) → length file ≤ MAX_PROGRAM → program_of file ≡ Ok p → Tells (Some MAX_INPUT) i input →
-    IsEnded p (fill_of fill) i o ended → (answer : Result (List ℕ) Refusal) × (length file ≤ MAX_PROGRAM) × DebugDecides fill file input answer × (ended_status ended ≡ answer_status answer)
+    Told i.before i.now (λ bytes rest. DebuggedAll p (fill_of fill) bytes o.before o.now ended) → (answer : Result (List ℕ) Refusal) × (length file ≤ MAX_PROGRAM) × DebugDecides fill file input answer × (ended_status ended ≡ answer_status answer)
 ended-decided fill file input p i o ended fits loaded u h =
-    let w = told-of i.before i.now input (λ bytes rest. DebuggedAll p (fill_of fill) bytes o.before o.now ended) u h.ran in
+    let w = told-of i.before i.now input (λ bytes rest. DebuggedAll p (fill_of fill) bytes o.before o.now ended) u h in
     (ended_as w.1.text ended, fits, record { program = p; loaded = loaded; text = w.1.text; ended = ended; ran = w.1.ran; is = refl }, same ended w.1.text)
   where
     same : (e : Option Refusal) (text : List ℕ) → ended_status e ≡ answer_status (ended_as text e)
@@ -109,17 +109,18 @@ ended-decided fill file input p i o ended fits loaded u h =
 
 late-decided : {Y : Type 0} (fill : FillWord) (file input : List ℕ) (p : ProgramView) (i o : Stream) (result : Result Y Refusal) → length file ≤ MAX_PROGRAM → program_of file ≡ Ok p → Tells (Some MAX_INPUT) i input →
     (Rose i.faults i.faults_now → ⊥) → (Rose o.faults o.faults_now → ⊥) → LinesEnd p (fill_of fill) i o result → LateSays fill file input (answer_status result)
-late-decided fill file input p i o (Ok y) fits loaded u calm quiet h = inl (ended-decided fill file input p i o None fits loaded u h)
+late-decided fill file input p i o (Ok y) fits loaded u calm quiet h = inl (ended-decided fill file input p i o None fits loaded u
+    (told-map i.before i.now (λ bytes rest. DebuggedDone p (fill_of fill) bytes rest o.before o.now) (λ bytes rest. DebuggedAll p (fill_of fill) bytes o.before o.now None) (λ bytes rest d. d.all) h.ran))
 late-decided fill file input p i o (Err refusal.Usage) fits loaded u calm quiet h = absurd h
 late-decided fill file input p i o (Err refusal.NoMemory) fits loaded u calm quiet h = inr refl
 late-decided fill file input p i o (Err (refusal.ReadFault origin.Program)) fits loaded u calm quiet h = absurd h
 late-decided fill file input p i o (Err (refusal.ReadFault origin.Input)) fits loaded u calm quiet h = absurd (calm h.input)
 late-decided fill file input p i o (Err (refusal.TooLong origin.Program)) fits loaded u calm quiet h = absurd h
-late-decided fill file input p i o (Err (refusal.TooLong origin.Input)) fits loaded u calm quiet h = inl (ended-decided fill file input p i o (Some (refusal.TooLong origin.Input)) fits loaded u h)
+late-decided fill file input p i o (Err (refusal.TooLong origin.Input)) fits loaded u calm quiet h = inl (ended-decided fill file input p i o (Some (refusal.TooLong origin.Input)) fits loaded u h.ran)
 late-decided fill file input p i o (Err refusal.WriteFault) fits loaded u calm quiet h = absurd (quiet h.output)
-late-decided fill file input p i o (Err (refusal.Judged (judgement.Vector n))) fits loaded u calm quiet h = inl (ended-decided fill file input p i o (Some (refusal.Judged (judgement.Vector n))) fits loaded u h)
-late-decided fill file input p i o (Err (refusal.Judged judgement.TooManyLines)) fits loaded u calm quiet h = inl (ended-decided fill file input p i o (Some (refusal.Judged judgement.TooManyLines)) fits loaded u h)
-late-decided fill file input p i o (Err (refusal.Judged (judgement.Command n f))) fits loaded u calm quiet h = inl (ended-decided fill file input p i o (Some (refusal.Judged (judgement.Command n f))) fits loaded u h)
+late-decided fill file input p i o (Err (refusal.Judged (judgement.Vector n))) fits loaded u calm quiet h = inl (ended-decided fill file input p i o (Some (refusal.Judged (judgement.Vector n))) fits loaded u h.ran)
+late-decided fill file input p i o (Err (refusal.Judged judgement.TooManyLines)) fits loaded u calm quiet h = inl (ended-decided fill file input p i o (Some (refusal.Judged judgement.TooManyLines)) fits loaded u h.ran)
+late-decided fill file input p i o (Err (refusal.Judged (judgement.Command n f))) fits loaded u calm quiet h = inl (ended-decided fill file input p i o (Some (refusal.Judged (judgement.Command n f))) fits loaded u h.ran)
 late-decided fill file input p i o (Err (refusal.Judged j)) fits loaded u calm quiet h = absurd h
 
 pub debug-decided : {Y : Type 0} (fill : FillWord) (seen : Seen) (file input : List ℕ) (result : Result Y Refusal) → Tells (Some MAX_PROGRAM) seen.program file → Tells (Some MAX_INPUT) seen.input input → IsCalm seen → DebugEnds fill seen result → AllDebug fill file input (answer_status result)

@@ -7,7 +7,7 @@ use Rattle.pim_isa.specs.Programs.{ProgramView}
 use Rattle.pim_isa.specs.declared.target.Fill.{Fill}
 use Rattle.pim_vectors.specs.Next.{LinesView}
 use Rattle.pim_words.specs.declared.command.FillWord.{FillWord}
-use Rattle.pim_top.specs.Debugging.{DebuggedAll}
+use Rattle.pim_top.specs.Debugging.{DebuggedDone}
 use Rattle.pim_top.specs.Programs.{program_of}
 use Rattle.pim_top.specs.Rows.{IsLoaded}
 use Rattle.pim_top.specs.Streams.{Seen, Stream}
@@ -47,15 +47,15 @@ of-input m n k (refusal.Judged j) h = (h, refl)
 -- the session was begun, and then the lines ended so
 pub lines-ended : (p p' : ProgramView) (fill : Fill) (a b c taken now : Option (List ℕ)) (m m' n k k' : ℕ) (l : LinesView) (s : SessionView) (result : Result (Unit {0}) Refusal) → p' ≡ p →
     Told a b (λ left rest. (now : Option (List ℕ)) → IsDebugging p fill left rest now now l (Some s)) → m' ≡ m →
-    OnOk result (Told b c (From p' taken l s (λ fill bytes before rest. DebuggedAll p' fill bytes before now None))) →
+    OnOk result (Told b c (From p' taken l s (λ fill bytes before rest. DebuggedDone p' fill bytes rest before now))) →
     IfErr result (λ r. Told b c (From p' taken l s (λ fill bytes before rest. DebugStops p' fill bytes rest before now r))) →
     OnOk result (n ≡ m') → OnOk result (k' ≡ k) → IfErr result (IsOfDebug m' n k k') →
     LinesEnd p fill (record { before = a; now = c; faults = m; faults_now = n }) (record { before = taken; now = now; faults = k; faults_now = k' }) result
 lines-ended p p' fill a b c taken now m m' n k k' l s (Ok y) same begun steady done refused in_steady out_steady kinds = record {
   input = in_steady ∙ steady;
   output = out_steady;
-  ran = begin-then a b c taken p fill l s (λ fill bytes before rest. DebuggedAll p fill bytes before now None) begun
-      (subst (λ (q : ProgramView). Told b c (From q taken l s (λ fill bytes before rest. DebuggedAll q fill bytes before now None))) same done);
+  ran = begin-then a b c taken p fill l s (λ fill bytes before rest. DebuggedDone p fill bytes rest before now) begun
+      (subst (λ (q : ProgramView). Told b c (From q taken l s (λ fill bytes before rest. DebuggedDone q fill bytes rest before now))) same done);
 }
 lines-ended p p' fill a b c taken now m m' n k k' l s (Err r) same begun steady done refused in_steady out_steady kinds =
     lines-refused p fill (record { before = a; now = c; faults = m; faults_now = n }) (record { before = taken; now = now; faults = k; faults_now = k' }) r

@@ -21,7 +21,7 @@ use Rattle.pim_vectors.specs.Next.{LinesView}
 use Rattle.pim_vectors.specs.declared.fault.LinesFault.{LinesFault}
 use Rattle.pim_vectors.specs.declared.fault.LinesFault.TheVariants as faults
 use Rattle.pim_vectors.specs.declared.limits.TheConstants.{MAX_LINES}
-use Rattle.pim_top.specs.Debugging.{DebuggedAll, DebuggedFront, DebuggedPart, Runs, Takes, command_end, last_end, line_end, longest_of, session_of, words_end}
+use Rattle.pim_top.specs.Debugging.{DebuggedAll, DebuggedDone, DebuggedFront, DebuggedPart, Runs, Takes, command_end, last_end, line_end, longest_of, session_of, words_end}
 use Rattle.pim_top.specs.Judged.{behind_lines, is_vector, judged_lines}
 use Rattle.pim_top.specs.declared.judgement.Judgement.TheVariants as judgement
 use Rattle.pim_top.specs.declared.refusal.Origin.TheVariants as origin
@@ -30,7 +30,7 @@ use Rattle.pim_top.specs.declared.refusal.Refusal.TheVariants as refusal
 use Rattle.pim_top.specs.commands.Replies.{reply_line}
 use Rattle.pim_top.specs.inner.Sessions.{DebugStops, DebugsOn, IsDebugging, command_refusal, debug_refusal, is_quit}
 use Rattle.pim_top.specs.inner.Standing.{first_line}
-use Rattle.pim_top.proofs.LineStates.{Says, StandsNext, halts-next, judged-front, line-more, line-next, long-next, many-next, none-next, over-next}
+use Rattle.pim_top.proofs.LineStates.{Says, StandsNext, halts-next, judged-front, line-more, line-next, long-next, many-next, none-next, over-next, rest-nil}
 use Rattle.pim_top.proofs.WalkSteps.{then-first, took-both}
 
 -- ---- one line more
@@ -270,6 +270,14 @@ input-ends p fill bytes left before taken l session h said =
     let w = none-next (longest_of p) bytes left h.front l h.place said in
     stop-end p fill bytes left before taken l session None h w.0 w.1
 
+-- no line is left for a session, and nothing of the input
+pub input-done : (p : ProgramView) (fill : Fill) (bytes left rest : List ℕ) (before taken : Option (List ℕ)) (l new : LinesView) (s : SessionView) →
+    IsDebugging p fill bytes left before taken l (Some s) → Says l left (Ok None) → new.held ++ rest ≡ l.held ++ left → DebuggedDone p fill bytes rest before taken
+input-done p fill bytes left rest before taken l new s h said kept = record {
+  all = input-ends p fill bytes left before taken l (Some s) h said;
+  read = λ none. rest-nil new.held rest (kept ∙ (none-next (longest_of p) bytes left h.front l h.place said).2);
+}
+
 -- the first line is the vector of a session
 pub vector-starts : (p : ProgramView) (fill : Fill) (bytes left rest : List ℕ) (before taken : Option (List ℕ)) (l new : LinesView) (line : List ℕ) →
     IsDebugging p fill bytes left before taken l None → Says l left (Ok (Some line)) → is_vector (length p.inputs) line ≡ true →
@@ -314,6 +322,9 @@ command-refused p fill bytes left rest before taken l s line n f h said number w
     by (fault.NoSuchCell k) (inl e) = absurd (let z : ⊥ = cc in z)
     by (fault.NoSuchCell k) (inr e) = refused (fault.NoSuchCell k) e
 
+not-nil : (line : List ℕ) (more : List (List ℕ)) → line ∷ more ≡ [] → ⊥
+not-nil line more e = cc
+
 -- a command was answered, and its reply written
 pub command-answered : (p : ProgramView) (fill : Fill) (bytes left rest : List ℕ) (before taken now : Option (List ℕ)) (l new : LinesView) (s s' : SessionView) (line : List ℕ) (r : Reply) (b : Bool) →
     IsDebugging p fill bytes left before taken l (Some s) → Says l left (Ok (Some line)) →
@@ -321,6 +332,7 @@ pub command-answered : (p : ProgramView) (fill : Fill) (bytes left rest : List �
     new.held ++ rest ≡ drop (line_len (l.held ++ left) + 1) (l.held ++ left) → new.place + length (new.held ++ rest) ≡ l.place + length (l.held ++ left) →
     refusal_of s (command_of line) ≡ None → AnswersLine s (command_of line) r s'.state → s' ≡ record s { state = s'.state } →
     is_quit r ≡ b → TookAll taken now (reply_line r) → DebugsOn (not b) p fill bytes rest before now new (Some s')
+unfolding stop-line
 command-answered p fill bytes left rest before taken now l new s s' line r b h said same given behind place accepted answers state quit took = by b quit
   where
     ends : (x : Bool) → is_quit r ≡ x → line_end p l.given (Some s) line ≡ cond x (Some None) None
@@ -333,9 +345,12 @@ command-answered p fill bytes left rest before taken now l new s s' line r b h s
         let next = line-next (longest_of p) bytes left h.front l line h.place said in
         let d = stop-line p fill bytes left before taken l (Some s) line false false None h next (ends true e) in
         record {
-          text = d.text;
-          ran = d.ran;
-          took = subst (TookAll before now) (ap (λ (t : List ℕ). d.text ++ t) (silent r e) ∙ append-nil d.text) (took-both before taken now d.text (reply_line r) d.took took);
+          all = record {
+            text = d.text;
+            ran = d.ran;
+            took = subst (TookAll before now) (ap (λ (t : List ℕ). d.text ++ t) (silent r e) ∙ append-nil d.text) (took-both before taken now d.text (reply_line r) d.took took);
+          };
+          read = λ none. absurd (not-nil line next.more none);
         }
     by false e =
         go-line p fill bytes left rest before taken now l new (Some s) (Some s') line (reply_line r) h said same given behind place (ends false e)

@@ -17,7 +17,7 @@ use Rattle.pim_vectors.specs.Next.{IsAfter, LinesView, next_of}
 use Rattle.pim_vectors.specs.declared.fault.LinesFault.{LinesFault}
 use Rattle.pim_vectors.specs.declared.fault.LinesFault.TheVariants as faults
 use Rattle.pim_io.specs.declared.limits.TheConstants.{MAX_INPUT}
-use Rattle.pim_top.specs.Debugging.{DebuggedAll, DebuggedFront, DebuggedPart, longest_of, session_of}
+use Rattle.pim_top.specs.Debugging.{DebuggedAll, DebuggedDone, DebuggedFront, DebuggedPart, longest_of, session_of}
 use Rattle.pim_top.specs.Judged.{is_vector}
 use Rattle.pim_top.specs.declared.judgement.Judgement.TheVariants as judgement
 use Rattle.pim_top.specs.declared.refusal.Refusal.{Refusal}
@@ -26,7 +26,7 @@ use Rattle.pim_top.specs.commands.Replies.{reply_line}
 use Rattle.pim_top.specs.inner.Sessions.{DebugStops, DebugsOn, IsDebugging, IsOfDebug, IsOfInput, IsUnwrittenReply, command_refusal, debug_refusal, is_quit}
 use Rattle.pim_top.specs.inner.Standing.{first_line, lines_refusal}
 use Rattle.pim_top.proofs.Told.{told-both, told-map}
-use Rattle.pim_top.proofs.commands.debug.Lines.{begins, command-answered, command-cut, command-refused, input-ends, input-stops, stop-front, vector-refused, vector-starts}
+use Rattle.pim_top.proofs.commands.debug.Lines.{begins, command-answered, command-cut, command-refused, input-done, input-ends, input-stops, stop-front, vector-refused, vector-starts}
 
 -- what the walk over lines says of the bytes from the next line on
 abbrev pub Answer : Option (List ℕ) → Option (List ℕ) → LinesView → Result (Option (List ℕ)) LinesFault → Type 0
@@ -106,11 +106,12 @@ abbrev pub From : ProgramView → Option (List ℕ) → LinesView → SessionVie
 From p taken l s P left rest =
     (fill : Fill) (bytes : List ℕ) (before : Option (List ℕ)) → IsDebugging p fill bytes left before taken l (Some s) → P fill bytes before rest
 
-pub line-none : (a b taken now : Option (List ℕ)) (p : ProgramView) (l : LinesView) (s : SessionView) → Answer a b l (Ok None) →
-    Told a b (From p taken l s (λ fill bytes before rest. DebuggedAll p fill bytes before taken None))
-line-none a b taken now p l s said =
-    told-map a b (λ left rest. next_of l (l.held ++ left) ≡ Ok None) (From p taken l s (λ fill bytes before rest. DebuggedAll p fill bytes before taken None))
-    (λ left rest t. λ fill bytes before h. input-ends p fill bytes left before taken l (Some s) h t) said
+pub line-none : (a b taken : Option (List ℕ)) (p : ProgramView) (l new : LinesView) (s : SessionView) → IsAfter l a b (Ok None) new → Answer a b l (Ok None) →
+    Told a b (From p taken l s (λ fill bytes before rest. DebuggedDone p fill bytes rest before taken))
+line-none a b taken p l new s after said =
+    told-both a b (λ left rest. next_of l (l.held ++ left) ≡ Ok None) (λ left rest. new.held ++ rest ≡ l.held ++ left)
+    (From p taken l s (λ fill bytes before rest. DebuggedDone p fill bytes rest before taken))
+    (λ left rest t kept. λ fill bytes before h. input-done p fill bytes left rest before taken l new s h t kept) said after.rest
 
 pub line-answered : (a b taken now : Option (List ℕ)) (p : ProgramView) (l new : LinesView) (s s' : SessionView) (line : Bor (List ℕ)) (r : Reply) (q : Bool) →
     IsAfter l a b (Ok (Some line)) new → Answer a b l (Ok (Some line.now)) →
@@ -256,6 +257,6 @@ step-off a b c taken mid now p p' l m s t x r on same h k =
 
 pub step-done : (a b taken now : Option (List ℕ)) (p : ProgramView) (l m : LinesView) (s t : SessionView) (x : Bool) → x ≡ false →
     Told a b (From p taken l s (λ fill bytes before rest. DebugsOn x p fill bytes rest before now m (Some t))) →
-    Told a b (From p taken l s (λ fill bytes before rest. DebuggedAll p fill bytes before now None))
+    Told a b (From p taken l s (λ fill bytes before rest. DebuggedDone p fill bytes rest before now))
 step-done a b taken now p l m s t x off h =
     subst (λ (z : Bool). Told a b (From p taken l s (λ fill bytes before rest. DebugsOn z p fill bytes rest before now m (Some t)))) off h

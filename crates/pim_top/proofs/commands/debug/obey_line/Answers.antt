@@ -9,8 +9,13 @@ use Rattle.pim_top.proofs.commands.debug.obey_line.Goals as goal
 
 pub returns-in-Ok-None-clause-goes : goal.returns-in-Ok-None-clause-goes
 returns-in-Ok-None-clause-goes g c =
-    line-none (g.S.Source.left c.args.input.now) (g.S.Source.left c.next.new.source) (g.K.Sink.taken c.args.output.now) (g.K.Sink.taken c.args.output.now)
-    c.args.session.now.program c.args.lines.now c.args.session.now (rw c.in-Ok-None.field-0-is at c.in-Ok-None.ensures.line)
+    let before = g.S.Source.left c.args.input.now in
+    let now = g.S.Source.left c.next.new.source in
+    let old = c.args.lines.now in
+    let new = c.next.follows.lender-at-none in
+    line-none before now (g.K.Sink.taken c.args.output.now) c.args.session.now.program old new c.args.session.now
+    (after-same old before now _ _ new (c.in-Ok-None.is ∙ ap (λ (o : Option (Bor (List ℕ))). Ok o) c.in-Ok-None.field-0-is) c.next.follows.holds-at-none)
+    (rw c.in-Ok-None.field-0-is at c.in-Ok-None.ensures.line)
 
 pub returns-in-Ok-clause-goes : goal.returns-in-Ok-clause-goes
 returns-in-Ok-clause-goes g c =
