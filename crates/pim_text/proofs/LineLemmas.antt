@@ -1,8 +1,8 @@
 -- The lines of a target, of a number and of a port are read as what they spell, and no other lines are.
-use Rattle.std.proofs.Common.{◌≡◌, ℕ, ◌+◌, ◌^◌, ◌<◌, Bool, true, false, cond, not, ltb, eqb, List, [], ◌∷◌, ◌++◌, length, Option, Some, None, codes, refl, ap, sym, ◌∙◌, subst, append_assoc, arith, take, drop, ◌⊎◌, inl, inr}
+use Rattle.std.proofs.Common.{◌≡◌, ℕ, ◌+◌, ◌^◌, ◌<◌, Bool, true, false, cond, not, ltb, eqb, List, [], ◌∷◌, ◌++◌, length, Option, Some, None, codes, refl, ap, sym, ◌∙◌, subst, append_assoc, arith, take, drop}
 use Rattle.std.specs.Fmt.{decimal}
 use Rattle.std.specs.List.{position, position_or_len, onto_first, join_with_byte}
-use Rattle.std.specs.Option.{option_map, option_and_then, option_or}
+use Rattle.std.specs.Option.{option_and_then}
 use Rattle.std.specs.Str.{bytes_eq}
 use Rattle.std.proofs.lemmas.Bool.{and_parts, not-true, lt-ltb}
 use Rattle.std.proofs.lemmas.List.{take_at, drop_at, take-append-drop, length-append}
@@ -20,7 +20,7 @@ use Rattle.pim_text.specs.Text.{target_word, target_line, port_line}
 use Rattle.pim_text.proofs.LabelLemmas.{label_test, is_label-from_IsLabel}
 use Rattle.pim_text.proofs.NumberLemmas.{plain_number-decimal, word_is_decimal}
 use Rattle.pim_text.proofs.FieldLemmas.{lacks-decimal, fields_cut, join-fields}
-use Rattle.pim_text.proofs.OptionLemmas.{bind_some, mapped, or_is, some_is}
+use Rattle.pim_text.proofs.OptionLemmas.{bind_some, some_is}
 
 -- fronts
 

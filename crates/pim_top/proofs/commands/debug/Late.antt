@@ -1,5 +1,5 @@
 -- How the command ends once its program is loaded.
-use Rattle.std.proofs.Common.{◌≡◌, ℕ, List, Option, Some, None, Result, Ok, Err, inr, refl, subst, ◌∙◌}
+use Rattle.std.proofs.Common.{◌≡◌, ℕ, List, Option, Some, Result, Ok, Err, inr, refl, subst, ◌∙◌}
 use Rattle.std.specs.Prelude.{IfErr, OnOk}
 use Rattle.pim_debug.specs.States.{SessionView}
 use Rattle.pim_io.specs.Outside.{Told}
